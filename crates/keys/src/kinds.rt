@@ -32,7 +32,10 @@ pub impl Key for Pair as PairKey {
 
     fn read(from: &[u8]) -> Option<Pair> {
         match from {
-            [level, container, ..] => Some(Pair { level: *level, container: *container }),
+            [level, container, ..] => Some(Pair {
+                level: *level,
+                container: *container,
+            }),
             _ => None,
         }
     }
@@ -92,6 +95,8 @@ pub impl Fingerprint for Fnv as FnvFingerprint {
     ghost naming = { fnvNaming };
 
     fn of(level: u8, payload: &[u8]) -> Fnv {
-        Fnv { number: hash_behind(level, payload) }
+        Fnv {
+            number: hash_behind(level, payload),
+        }
     }
 }

@@ -10,7 +10,7 @@ loop-byte-again c =
     let l = c .loop-byte in
     let xs = c .args .bytes .now in
     let e : mixedAll (l .sum) (drop (l .byte-index) xs) ≡ mixedAll (mixed (l .sum) (getD xs (l .byte-index) 0)) (drop (l .byte-index + 1) xs)
-        = at-drop-more (mixedAll (l .sum)) xs (l .byte-index) 0 (c .loop-byte-test .taken) in
+    = at-drop-more (mixedAll (l .sum)) xs (l .byte-index) 0 (c .loop-byte-test .taken) in
     rw (c .mix-byte-sum .ensures) (sym e ∙ l .inv)
 
 pub returns : need.returns

@@ -1,0 +1,4 @@
+pub mod Records
+pub mod Limits
+pub mod Shapes
+pub mod Refusals
