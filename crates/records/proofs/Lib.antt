@@ -1,1 +1,2 @@
 pub mod Shaping
+pub mod Places

@@ -1,4 +1,5 @@
 -- Each refusal's number, and a refusal with and without a place.
+use mathlib.Core.Path.{_≡_}
 use Prim.Native.Nat.{ℕ}
 use Rattle.records.specs.declared.refusal.Cause.{Cause}
 use Rattle.records.specs.declared.refusal.Cause.the-variants.{Size, Layout, Shape, WrongFingerprint, RepeatedFingerprint, BadName, NoRoot, BrokenTree, TooShort, SmallSet, NoSuchPlace, WrongToken, Shut, AlreadyAdmitted, NoneFree, MarkingOpen, NoMarking, Collision, StoreFull, NameKept, NameNotKept, TooManySheets, SheetInUse, TooManyTokens, ContainerFree, ContainerFull}
@@ -39,3 +40,8 @@ untold cause = record { cause = cause; place = record { container = 0; index = 0
 
 abbrev pub toldAt : Cause → Place → Refusal
 toldAt cause place = record { cause = cause; place = place }
+
+-- the refusal of a number, which tells of no place
+pub record Numbered (n : ℕ) (e : Refusal) : Type 0 where
+  pub number : numberOf (e .cause) ≡ n
+  pub place : e .place ≡ record { container = 0; index = 0 }

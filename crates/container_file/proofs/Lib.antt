@@ -1,0 +1,6 @@
+pub mod Held
+pub mod Opening
+pub mod Searching
+pub mod Appending
+pub mod Writes
+pub mod Erasing

@@ -1,0 +1,16 @@
+use mathlib.Core.Path.{_≡_, ap}
+use Prim.Native.Nat.{_+_, _-_, _*_}
+use native.Mathlib.Omega.{arith}
+use lib.ListN.{take, drop}
+use Rattle.std.proofs.shelf.Lists.{take-rest}
+use Rattle.container_format.specs.Layout.{bodyAt}
+use Rattle.container_format.proofs.Turn.{container-both}
+use Rattle.container_format.proofs.acceptance.container_in_order.Needs as need
+
+pub returns : need.returns
+returns c =
+    let w = c .args .width in
+    let s = c .args .bytes .now in
+    let n : bodyAt w - 16 ≡ 63 * (w + 8) = omega arith in
+    let t = container-both w _ _ s _ _ _ (c .u16-at-count .ensures) (c .u16-at-used .ensures) (ap (λ k. take k (drop 16 s)) n) (take-rest s (bodyAt w)) (c .if-count-gt63 .left) (c .if-not-all-zero .ensures tt .yes tt) (c .entries-in-order .ensures .yes) (c .entries-in-order .ensures .no) in
+    record { yes = t .0; no = t .1 }
