@@ -4,3 +4,4 @@ pub mod Searching
 pub mod Appending
 pub mod Writes
 pub mod Erasing
+pub mod Laying

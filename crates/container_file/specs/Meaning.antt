@@ -4,15 +4,21 @@ use mathlib.Core.List.{List, []}
 use mathlib.Core.Path.{_≡_}
 use Prim.Native.Nat.{ℕ, _+_, _*_, _<_, _≤_}
 use lib.Dec.{eqb}
-use lib.ListN.{length, take, drop}
+use lib.ListN.{length, take, drop, replicate}
 use Rattle.std.specs.Of.Vec.{vec-items}
+use Rattle.std.specs.declared.alloc.Global.{Global}
+use Rattle.std.specs.declared.vec.Vec.{Vec}
 use Rattle.std.specs.declared.option.Option.{Option}
 use Rattle.std.specs.declared.option.Option.the-variants.{Some, None}
 use Rattle.std.specs.declared.result.Result.{Result}
 use Rattle.std.specs.declared.result.Result.the-variants.{Ok, Err}
 use Rattle.records.specs.Records.{Contents}
+use Rattle.records.specs.Refusals.{untold}
+use Rattle.records.specs.declared.refusal.Cause.the-variants.{Size}
 use Rattle.records.specs.declared.refusal.Place.{Place}
+use Rattle.records.specs.declared.refusal.Refusal.{Refusal}
 use Rattle.devices.specs.Questions.{recordsOf, recordAt}
+use Rattle.container_format.specs.Checking.{Count}
 use Rattle.container_format.specs.Layout.{bodyAt, containerSize}
 use Rattle.container_format.specs.Reading.{readFile, EntryOf}
 use Rattle.container_file.specs.declared.file.ContainerFile.{ContainerFile}
@@ -52,3 +58,8 @@ pub record SpanOf {F : Type 0} (w : ℕ) (s : ContainerFile F) (p : Place) (from
 abbrev pub Spanned : {F : Type 0} → ℕ → ContainerFile F → Place → Option (ℕ × ℕ) → Type 0
 Spanned w s p None = length (recordsOf (contentsOf w s) (p .container)) ≤ p .index
 Spanned w s p (Some x) = SpanOf w s p (x .0) (x .1)
+
+-- laying out n free containers: refused where n or the length is wrong, and then the bytes come back as they were
+abbrev pub LaidOut : {F : Type 0} → ℕ → ℕ → Vec ℕ Global → Result (ContainerFile F) (Refusal × Vec ℕ Global) → Type 0
+LaidOut w n bytes (Ok s) = Count w (length (vec-items bytes)) n × (contentsOf w s ≡ replicate n []) × (vec-items (s .bytes) ≡ replicate (length (vec-items bytes)) 0)
+LaidOut w n bytes (Err x) = (x .0 ≡ untold Size) × (x .1 ≡ bytes) × (Count w (length (vec-items bytes)) n → ⊥)

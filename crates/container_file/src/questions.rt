@@ -11,9 +11,11 @@ ghost use Rattle.records.specs.Records.{Contents, payloadBytes, placeAmong, fir
 ghost use Rattle.devices.specs.Questions.{ofRecord, recordsOf};
 ghost use Rattle.container_format.specs.Checking.{NoFile};
 ghost use Rattle.container_format.specs.Layout.{containerSize, bodyAt, file};
-ghost use Rattle.container_file.specs.Meaning.{readAs, contentsOf, answered, Entered, Spanned};
+ghost use Rattle.container_file.specs.Meaning.{readAs, contentsOf, answered, Entered, Spanned, LaidOut};
 use crate::file::ContainerFile;
+use crate::changes::zero;
 use container_format::check;
+use container_format::container_size;
 use container_format::u16_at;
 use container_format::u32_at;
 use keys::Fingerprint;
@@ -34,6 +36,28 @@ impl<F: Fingerprint> ContainerFile<F> {
             Err(_) => 0,
         };
         ContainerFile { bytes, count, width: F::width(), kind: PhantomData }
+    }
+
+    // Lays out `count` free containers over given bytes, which are zero then; else the bytes come back as they were.
+    pub fn lay_out(bytes: Vec<u8>, count: usize) -> Result<Self, (Refusal, Vec<u8>)>
+        ensures { λ r. ⌜ LaidOut (F·Key .width) count bytes r ⌝ }
+    {
+        let size = container_size::<F>();
+        if count < 2 || count > 32 || bytes.len() != count * size {
+            return Err((Refusal::of(Cause::Size), bytes));
+        }
+        let mut bytes = bytes;
+        let end = bytes.len();
+        zero(&mut bytes, 0, end);
+        Ok(ContainerFile { bytes, count, width: F::width(), kind: PhantomData })
+    }
+
+    // The bytes: the one file of what it holds, where it holds containers.
+    pub fn bytes(&self) -> &[u8]
+        ensures value { λ r. ⌜ now r ≡ vec-items (now (self .entry) .bytes) ⌝ }
+        ensures whole { λ r. ⌜ (1 ≤ length (contentsOf (F·Key .width) (now (self .entry))) → Limits (F·Key .width) (contentsOf (F·Key .width) (now (self .entry))) × (now r ≡ file (F·Key .width) (contentsOf (F·Key .width) (now (self .entry))))) ⌝ }
+    {
+        &self.bytes
     }
 
     // How many containers there are.

@@ -6,3 +6,4 @@ pub mod Files
 pub mod Find
 pub mod Props
 pub mod Whole
+pub mod One

@@ -7,7 +7,7 @@ use lib.ListN.{length, getD, take, drop}
 use Rattle.std.specs.declared.result.Result.{Result}
 use Rattle.std.specs.declared.result.Result.the-variants.{Ok, Err}
 use Rattle.std.specs.shelf.Lists.{All}
-use Rattle.keys.specs.Octets.{number}
+use Rattle.keys.specs.Octets.{Bytes, number}
 use Rattle.records.specs.Limits.{Stored, Limits}
 use Rattle.records.specs.Records.{Contents}
 use Rattle.records.specs.Refusals.{Numbered}
@@ -78,3 +78,14 @@ pub record Intact (w n : ℕ) (bs : List ℕ) : Type 0 where
   pub exact : 1 ≤ n → (2 ≤ n) × (length bs ≡ n * containerSize w)
   pub bytes : take (n * containerSize w) bs ≡ file w (readFile w n bs)
   pub each : All (Stored w) (readFile w n bs)
+
+-- bytes that follow the layout, entry by entry, and read as the list cs
+pub record FileOf (w : ℕ) (cs : Contents) (bs : List ℕ) : Type 0 where
+  pub octets : Bytes bs
+  pub count : Count w (length bs) (length cs)
+  pub order : ContainersOk w (length cs) bs
+  pub reads : readFile w (length cs) bs ≡ cs
+
+-- every list within the limits has exactly one container file, and it reads back to that list
+abbrev pub OneFile : ℕ → Type 0
+OneFile w = (cs : Contents) → Limits w cs → FileOf w cs (file w cs) × ((bs : List ℕ) → FileOf w cs bs → bs ≡ file w cs)

@@ -6,7 +6,7 @@ ghost use lib.ListN.{length};
 ghost use Rattle.std.specs.Options.{Cases as BySome};
 ghost use Rattle.container_format.specs.Layout.{containerSize};
 ghost use Rattle.container_format.specs.Reading.{lengthIn};
-ghost use Rattle.container_format.specs.Checking.{Zeros, EntryOk, EntriesOk, ContainerOk, ContainersOk, Checked};
+ghost use Rattle.container_format.specs.Checking.{Zeros, EntryOk, EntriesOk, ContainerOk, ContainersOk, Checked, OneFile};
 use crate::numbers::u16_at;
 use crate::numbers::u32_at;
 use crate::sizes::container_size;
@@ -103,7 +103,8 @@ fn containers_in_order(bytes: &[u8], width: usize, size: usize, count: usize) ->
 
 // The number of containers of a container file, or why the bytes are none.
 pub fn check<F: Fingerprint>(bytes: &[u8]) -> Result<usize, Refusal>
-    ensures { λ r. ⌜ Checked (F·Key .width) (now (bytes .entry)) r ⌝ }
+    ensures answer { λ r. ⌜ Checked (F·Key .width) (now (bytes .entry)) r ⌝ }
+    ensures one { λ _. ⌜ OneFile (F·Key .width) ⌝ }
 {
     let size = container_size::<F>();
     let count = bytes.len() / size;
