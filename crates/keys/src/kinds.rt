@@ -1,5 +1,6 @@
 // The two kinds of key, and the home number that every key has.
 ghost use mathlib.Core.Path.{_≡_};
+ghost use Rattle.keys.specs.Octets.{sameBytes};
 ghost use Rattle.keys.specs.Encodings.{homeNumber, pairBytes, pairOf, fnvBytes, fnvOf, fnvNaming};
 use crate::fingerprint::Fingerprint;
 use crate::fnv::Fnv;
@@ -15,6 +16,13 @@ pub fn home<K: Key>(key: K, seed: u8) -> u64
     let mut buffer = [0u8; 20];
     let _ = key.write(&mut buffer);
     hash_behind(seed, &buffer[0..width])
+}
+
+// Whether a fingerprint is the one of a level and a payload.
+pub fn is_named<F: Fingerprint>(fingerprint: F, level: u8, payload: &[u8]) -> bool
+    ensures { λ r. ⌜ r ≡ sameBytes (F·Key .bytes fingerprint) (F·Key .bytes (F·Fingerprint .naming level (now (payload .entry)))) ⌝ }
+{
+    fingerprint.same(F::of(level, payload))
 }
 
 pub impl Key for Pair as PairKey {

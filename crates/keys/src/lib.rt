@@ -13,4 +13,5 @@ pub use kinds::FnvFingerprint;
 pub use kinds::FnvKey;
 pub use kinds::PairKey;
 pub use kinds::home;
+pub use kinds::is_named;
 pub use pair::Pair;

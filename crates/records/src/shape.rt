@@ -6,7 +6,7 @@ ghost use lib.ListN.{length};
 ghost use Rattle.records.specs.Shapes.{Shape, shaped};
 use keys::Fingerprint;
 
-// The test of a shape, at a width that any kind of fingerprint has.
+// Whether a level and a length make a shape, at a width that any kind of fingerprint has.
 fn has_shape(width: usize, level: u8, bytes: usize) -> bool
     requires some { ⌜ 1 ≤ width ⌝ }
     requires narrow { ⌜ width ≤ 20 ⌝ }
