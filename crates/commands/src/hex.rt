@@ -13,7 +13,10 @@ impl Hex {
     pub fn of<K: Key>(key: K) -> Self {
         let mut bytes = [0u8; 20];
         let _ = key.write(&mut bytes);
-        Hex { bytes, width: K::width() }
+        Hex {
+            bytes,
+            width: K::width(),
+        }
     }
 }
 

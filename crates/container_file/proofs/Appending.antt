@@ -68,8 +68,10 @@ entries-push off (x ∷ rs) r =
 module _ (w : ℕ) (rs : List Rec) (r : Rec) (fits : Stored w rs) (new : Storable w r) (one : length rs < 63) (room : length (payloads rs) + length (r .payload) ≤ 7168) where
   abbrev k : ℕ
   k = length rs
+
   abbrev u : ℕ
   u = length (payloads rs)
+
   abbrev n : ℕ
   n = length (r .payload)
 
@@ -111,10 +113,10 @@ module _ (w : ℕ) (rs : List Rec) (r : Rec) (fits : Stored w rs) (new : Storabl
       let k′ = sym length-push′ in
       let u′ = sym used-push in
       ap (λ x. written 0 (little 2 (k + 1) ++ little 2 (u + n)) (written (16 + k * (w + 8)) (entry u r) x)) s1′
-          ∙ ap (written 0 (little 2 (k + 1) ++ little 2 (u + n))) s2
-          ∙ form-header k u (k + 1) (u + n) (E ++ entry u r) q2 (B ++ r .payload) q1
-          ∙ (λ i. form (k′ i) (u′ i) (e′ i) (replicate ((63 - k′ i) * (w + 8)) 0) (b′ i) (replicate (7168 - u′ i) 0))
-          ∙ sym (container-form w (rs ++ r ∷ []))
+      ∙ ap (written 0 (little 2 (k + 1) ++ little 2 (u + n))) s2
+      ∙ form-header k u (k + 1) (u + n) (E ++ entry u r) q2 (B ++ r .payload) q1
+      ∙ (λ i. form (k′ i) (u′ i) (e′ i) (replicate ((63 - k′ i) * (w + 8)) 0) (b′ i) (replicate (7168 - u′ i) 0))
+      ∙ sym (container-form w (rs ++ r ∷ []))
 
 pub length-written : (a : ℕ) (ys xs : List ℕ) → a + length ys ≤ length xs → length (written a ys xs) ≡ length xs
 length-written a ys xs h =
@@ -170,4 +172,3 @@ written-twice a b xs ys bs e room =
     let x : written a xs bs ≡ p ++ (m ++ q) = ap (λ y. take a bs ++ (xs ++ y)) d ∙ sym (append-assoc (take a bs) xs (m ++ q)) in
     let k : a + length xs + length ys ≡ a + length (xs ++ ys) = (let t = length-append xs ys in omega arith) in
     ap (written b ys) x ∙ written-at b p m q ys lp lm ∙ append-assoc (take a bs) xs (ys ++ q) ∙ ap (λ y. take a bs ++ y) (sym (append-assoc xs ys q)) ∙ ap (λ j. take a bs ++ ((xs ++ ys) ++ drop j bs)) k
-

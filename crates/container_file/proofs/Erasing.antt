@@ -33,7 +33,7 @@ intact-erase w n c base size bs after g h b z is =
     let zeros = zero-container w in
     let l : length (containerBytes w rs) ≡ length (containerBytes w []) = length-container w rs (a .stored) ∙ sym (length-container w [] (stored-none w)) in
     let x : after ≡ a .before ++ (containerBytes w [] ++ a .behind) =
-        is ∙ (λ i. written (b i) ((ap (λ k. replicate k 0) z ∙ sym zeros) i) (a .is i)) ∙ written-at (c * containerSize w) (a .before) (containerBytes w rs) (a .behind) (containerBytes w []) (a .at) l
+    is ∙ (λ i. written (b i) ((ap (λ k. replicate k 0) z ∙ sym zeros) i) (a .is i)) ∙ written-at (c * containerSize w) (a .before) (containerBytes w rs) (a .behind) (containerBytes w []) (a .at) l
     in
     let P : List ℕ → Type 0 = λ y. Intact w n y × (readFile w n y ≡ set (readFile w n bs) c []) in
     subst P (sym x) (a .other [] (stored-none w))

@@ -84,4 +84,3 @@ module _ {F : Type 0} (w : ℕ) (s : ContainerFile F) where
         index = (let l = ap length same in omega arith);
         entry = subst (λ X. X) (λ i. P (e i) (sym is i) (sym r i)) f;
       }
-

@@ -63,9 +63,9 @@ pub found-there : {K : Type 0} (bytes : K → List ℕ) (key : List ℕ → K) (
 found-there bytes key w any cs p f held e =
     ⊎-elim
     (λ h.
-      let is : f ≡ key (recordAt cs p .fingerprint) = (let t = h .1 in cc) in
-      let t = typed-at w cs p held (h .0) in
-      (h .0, ap bytes is ∙ any (recordAt cs p .fingerprint) (t .wide) (t .fingerprint)))
+    let is : f ≡ key (recordAt cs p .fingerprint) = (let t = h .1 in cc) in
+    let t = typed-at w cs p held (h .0) in
+    (h .0, ap bytes is ∙ any (recordAt cs p .fingerprint) (t .wide) (t .fingerprint)))
     (λ h. absurd (let z : _≡_ {A = ℕ} 0 1 = (let t = h .1 in cc) in omega arith))
     (there-or-not (λ x. key (x .fingerprint)) cs p)
 

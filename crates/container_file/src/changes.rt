@@ -53,7 +53,13 @@ fn header(count: usize, used: usize) -> [u8; 4]
 
 impl<F: Fingerprint> ContainerFile<F> {
     // Writes a record behind the others of a container that takes it: the payload into the body behind the used part, then its entry, then the header.
-    pub(crate) fn write_record(&mut self, container: usize, level: u8, fingerprint: &[u8], payload: &[u8])
+    pub(crate) fn write_record(
+        &mut self,
+        container: usize,
+        level: u8,
+        fingerprint: &[u8],
+        payload: &[u8],
+    )
         requires here { ⌜ container < now self .count ⌝ }
         requires wide { ⌜ length (now fingerprint) ≡ now self .width ⌝ }
         requires level { ⌜ level ≤ 6 ⌝ }
@@ -72,7 +78,11 @@ impl<F: Fingerprint> ContainerFile<F> {
         let at = base + (16 + count * (width + 8));
         let tail = entry_tail(level, payload.len(), used);
         let head = header(count + 1, used + payload.len());
-        put(&mut self.bytes, base + (16 + 63 * (width + 8) + used), payload);
+        put(
+            &mut self.bytes,
+            base + (16 + 63 * (width + 8) + used),
+            payload,
+        );
         put(&mut self.bytes, at, fingerprint);
         put(&mut self.bytes, at + width, &tail);
         put(&mut self.bytes, base, &head);

@@ -18,14 +18,14 @@ pub impl<F: Fingerprint> Device for ContainerFile<F> as FileDevice {
     }
 
     fn records(&self, container: usize) -> Result<usize, Refusal> {
-        if container >= self.containers() {
+        if !self.has(container) {
             return Err(Refusal::of(Cause::NoSuchPlace));
         }
         Ok(self.records_in(container))
     }
 
     fn payload_bytes(&self, container: usize) -> Result<usize, Refusal> {
-        if container >= self.containers() {
+        if !self.has(container) {
             return Err(Refusal::of(Cause::NoSuchPlace));
         }
         Ok(self.bytes_in(container))
@@ -39,7 +39,8 @@ pub impl<F: Fingerprint> Device for ContainerFile<F> as FileDevice {
     }
 
     fn fingerprint(&self, place: Place) -> Result<F, Refusal> {
-        self.fingerprint_at(place).ok_or(Refusal::of(Cause::NoSuchPlace))
+        self.fingerprint_at(place)
+            .ok_or(Refusal::of(Cause::NoSuchPlace))
     }
 
     fn payload_len(&self, place: Place) -> Result<usize, Refusal> {
@@ -63,14 +64,20 @@ pub impl<F: Fingerprint> Device for ContainerFile<F> as FileDevice {
         self.first_of(fingerprint)
     }
 
-    fn append(&mut self, container: usize, level: u8, fingerprint: F, payload: &[u8]) -> Result<(), Refusal> {
-        if container >= self.containers() {
+    fn append(
+        &mut self,
+        container: usize,
+        level: u8,
+        fingerprint: F,
+        payload: &[u8],
+    ) -> Result<(), Refusal> {
+        if !self.has(container) {
             return Err(Refusal::of(Cause::NoSuchPlace));
         }
         if level > 6 || payload.len() < 1 || payload.len() > 1280 {
             return Err(Refusal::of(Cause::Shape));
         }
-        if self.records_in(container) >= 63 || self.bytes_in(container) + payload.len() > 7168 {
+        if !self.takes(container, payload.len()) {
             return Err(Refusal::of(Cause::ContainerFull));
         }
         let mut name = [0u8; 20];
@@ -80,7 +87,7 @@ pub impl<F: Fingerprint> Device for ContainerFile<F> as FileDevice {
     }
 
     fn erase(&mut self, container: usize) -> Result<(), Refusal> {
-        if container >= self.containers() {
+        if !self.has(container) {
             return Err(Refusal::of(Cause::NoSuchPlace));
         }
         self.clear_container(container);

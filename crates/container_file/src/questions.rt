@@ -2,6 +2,7 @@
 ghost use mathlib.Core.List.{[]};
 ghost use mathlib.Core.Path.{_≡_};
 ghost use Prim.Native.Nat.{_+_, _*_, _<_, _≤_};
+ghost use lib.Dec.{T, ltb};
 ghost use lib.ListN.{length, getD};
 ghost use Rattle.std.specs.Of.Vec.{vec-items};
 ghost use Rattle.std.specs.Results.{okPart};
@@ -12,10 +13,10 @@ ghost use Rattle.devices.specs.Questions.{ofRecord, recordsOf};
 ghost use Rattle.container_format.specs.Checking.{NoFile};
 ghost use Rattle.container_format.specs.Layout.{containerSize, bodyAt, file};
 ghost use Rattle.container_file.specs.Meaning.{readAs, contentsOf, answered, Entered, Spanned, LaidOut};
-use crate::file::ContainerFile;
 use crate::changes::zero;
+use crate::file::ContainerFile;
 use container_format::check;
-use container_format::container_size;
+use container_format::has_length;
 use container_format::u16_at;
 use container_format::u32_at;
 use keys::Fingerprint;
@@ -35,21 +36,30 @@ impl<F: Fingerprint> ContainerFile<F> {
             Ok(count) => count,
             Err(_) => 0,
         };
-        ContainerFile { bytes, count, width: F::width(), kind: PhantomData }
+        ContainerFile {
+            bytes,
+            count,
+            width: F::width(),
+            kind: PhantomData,
+        }
     }
 
     // Lays out `count` free containers over given bytes, which are zero then; else the bytes come back as they were.
     pub fn lay_out(bytes: Vec<u8>, count: usize) -> Result<Self, (Refusal, Vec<u8>)>
         ensures { λ r. ⌜ LaidOut (F·Key .width) count bytes r ⌝ }
     {
-        let size = container_size::<F>();
-        if count < 2 || count > 32 || bytes.len() != count * size {
+        if !has_length::<F>(bytes.len(), count) {
             return Err((Refusal::of(Cause::Size), bytes));
         }
         let mut bytes = bytes;
         let end = bytes.len();
         zero(&mut bytes, 0, end);
-        Ok(ContainerFile { bytes, count, width: F::width(), kind: PhantomData })
+        Ok(ContainerFile {
+            bytes,
+            count,
+            width: F::width(),
+            kind: PhantomData,
+        })
     }
 
     // The bytes: the one file of what it holds, where it holds containers.
@@ -65,7 +75,19 @@ impl<F: Fingerprint> ContainerFile<F> {
         ensures count { λ r. ⌜ r ≡ length (contentsOf (F·Key .width) (now (self .entry))) ⌝ }
         ensures own { λ r. ⌜ (0 < r → (now (self .entry) .width ≡ F·Key .width) × (r ≡ now (self .entry) .count)) ⌝ }
     {
-        if self.width == F::width() { self.count } else { 0 }
+        if self.width == F::width() {
+            self.count
+        } else {
+            0
+        }
+    }
+
+    // Whether there is such a container.
+    pub(crate) fn has(&self, container: usize) -> bool
+        ensures answer { λ r. ⌜ r ≡ ltb container (length (contentsOf (F·Key .width) (now (self .entry)))) ⌝ }
+        ensures own { λ r. ⌜ (T r → (now (self .entry) .width ≡ F·Key .width) × (container < now (self .entry) .count)) ⌝ }
+    {
+        container < self.containers()
     }
 
     // Where a container begins.
@@ -96,6 +118,16 @@ impl<F: Fingerprint> ContainerFile<F> {
         u16_at(&self.bytes, self.base(container) + 2)
     }
 
+    // Whether a container takes one more record with a payload of `len` bytes.
+    pub(crate) fn takes(&self, container: usize, len: usize) -> bool
+        requires here { ⌜ container < now self .count ⌝ }
+        requires small { ⌜ len ≤ 1280 ⌝ }
+        ensures yes { λ r. ⌜ (T r → (length (getD (readAs (now (self .entry))) container []) < 63) × (payloadBytes (getD (readAs (now (self .entry))) container []) + len ≤ 7168)) ⌝ }
+        ensures no { λ r. ⌜ (length (getD (readAs (now (self .entry))) container []) < 63 → payloadBytes (getD (readAs (now (self .entry))) container []) + len ≤ 7168 → T r) ⌝ }
+    {
+        self.records_in(container) < 63 && self.bytes_in(container) + len <= 7168
+    }
+
     // Where the entry of a record begins, if there is such a record.
     pub(crate) fn entry(&self, place: Place) -> Option<usize>
         ensures { λ r. ⌜ Entered (F·Key .width) (now (self .entry)) place r ⌝ }
@@ -116,7 +148,10 @@ impl<F: Fingerprint> ContainerFile<F> {
         let at = self.entry(place)?;
         let len = u16_at(&self.bytes, at + (self.width + 2));
         let offset = u32_at(&self.bytes, at + (self.width + 4));
-        Some((self.base(place.container) + (16 + 63 * (self.width + 8)) + offset, len))
+        Some((
+            self.base(place.container) + (16 + 63 * (self.width + 8)) + offset,
+            len,
+        ))
     }
 
     // A record's payload: the part of the file that begins at the offset its entry names.

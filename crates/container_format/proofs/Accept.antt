@@ -150,7 +150,7 @@ accepts w s sb sl ok =
     let es = take (63 * (w + 8)) (drop 16 s) in
     let bs = drop (bodyAt w) s in
     let j = 63 - k in
-    let cnt = ok .count in
+    let cnt = ok .header .count in
     let kj : k + j ≡ 63 = omega arith in
     let le1 : length es ≡ 63 * (w + 8) = length-take-le _ _ (simp length-drop (omega arith)) in
     let le2 : length es ≡ (k + j) * (w + 8) = le1 ∙ ap (λ n. n * (w + 8)) (sym kj) in
@@ -174,16 +174,16 @@ accepts w s sb sl ok =
     let h0 : little 2 k ≡ take 2 s = little-take 2 s (omega arith) sb in
     let h2 : little 2 used ≡ take 2 (drop 2 s) = little-take 2 (drop 2 s) (simp length-drop (omega arith)) (all-drop B 2 s sb) in
     let l4 : length (take 12 (drop 4 s)) ≡ 12 = length-take-le 12 (drop 4 s) (simp length-drop (omega arith)) in
-    let h4 : take 12 (drop 4 s) ≡ replicate 12 0 = zeros-are (take 12 (drop 4 s)) (ok .zeros) ∙ ap (λ n. replicate n 0) l4 in
+    let h4 : take 12 (drop 4 s) ≡ replicate 12 0 = zeros-are (take 12 (drop 4 s)) (ok .header .zeros) ∙ ap (λ n. replicate n 0) l4 in
     let f : containerBytes w rs ≡ s =
-        container-is w rs ∙ ap (λ n. little 2 n ++ (little 2 (length (payloads rs)) ++ (replicate 12 0 ++ inside w rs))) c
-            ∙ ap (λ n. little 2 k ++ (little 2 n ++ (replicate 12 0 ++ inside w rs))) u
-            ∙ ap (λ y. little 2 k ++ (little 2 used ++ (replicate 12 0 ++ y))) i
-            ∙ ap (λ y. y ++ (little 2 used ++ (replicate 12 0 ++ drop 16 s))) h0
-            ∙ ap (λ y. take 2 s ++ (y ++ (replicate 12 0 ++ drop 16 s))) h2
-            ∙ ap (λ y. take 2 s ++ (take 2 (drop 2 s) ++ (y ++ drop 16 s))) (sym h4)
-            ∙ ap (λ y. take 2 s ++ (take 2 (drop 2 s) ++ y)) (sym p4)
-            ∙ ap (λ y. take 2 s ++ y) (sym p2) ∙ sym p0
+    container-is w rs ∙ ap (λ n. little 2 n ++ (little 2 (length (payloads rs)) ++ (replicate 12 0 ++ inside w rs))) c
+    ∙ ap (λ n. little 2 k ++ (little 2 n ++ (replicate 12 0 ++ inside w rs))) u
+    ∙ ap (λ y. little 2 k ++ (little 2 used ++ (replicate 12 0 ++ y))) i
+    ∙ ap (λ y. y ++ (little 2 used ++ (replicate 12 0 ++ drop 16 s))) h0
+    ∙ ap (λ y. take 2 s ++ (y ++ (replicate 12 0 ++ drop 16 s))) h2
+    ∙ ap (λ y. take 2 s ++ (take 2 (drop 2 s) ++ (y ++ drop 16 s))) (sym h4)
+    ∙ ap (λ y. take 2 s ++ (take 2 (drop 2 s) ++ y)) (sym p4)
+    ∙ ap (λ y. take 2 s ++ y) (sym p2) ∙ sym p0
     in
     let P : List Rec → Type 0 = λ y. (containerBytes w y ≡ s) × Stored w y in
     subst P (sym is) (f, stored-from w rs (omega arith) (let y = length-append (payloads rs) (replicate (7168 - used) 0) in omega (arith, ap length bo)) (t .each))

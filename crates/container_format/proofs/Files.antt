@@ -99,12 +99,12 @@ around w n c bs g h =
       at = length-file w (take c cs) (all-take (Stored w) c cs (g .each)) ∙ ap (λ j. j * containerSize w) lt;
       stored = all-getD (Stored w) cs c [] h′ (g .each);
       other = λ rs f.
-        let ds = set cs c rs in
-        let fits : All (Stored w) ds = all-set (Stored w) cs c rs f (g .each) in
-        let ld : length ds ≡ n = length-set cs c rs ∙ l in
-        let e : file w ds ++ z ≡ p ++ (containerBytes w rs ++ q) = ap (λ y. y ++ z) (file-set w cs c rs h′) ∙ simp append-assoc in
-        let P : List ℕ → Type 0 = λ y. Intact w n y × (readFile w n y ≡ ds) in
-        subst P e (intact-made w n ds z fits ld (g .few) (g .narrow) (λ some. (g .exact some .0, length-drop (n * containerSize w) bs ∙ (let x = g .exact some .1 in omega arith))), ap (λ j. readFile w j (file w ds ++ z)) (sym ld) ∙ reads-behind w ds z fits);
+          let ds = set cs c rs in
+          let fits : All (Stored w) ds = all-set (Stored w) cs c rs f (g .each) in
+          let ld : length ds ≡ n = length-set cs c rs ∙ l in
+          let e : file w ds ++ z ≡ p ++ (containerBytes w rs ++ q) = ap (λ y. y ++ z) (file-set w cs c rs h′) ∙ simp append-assoc in
+          let P : List ℕ → Type 0 = λ y. Intact w n y × (readFile w n y ≡ ds) in
+          subst P e (intact-made w n ds z fits ld (g .few) (g .narrow) (λ some. (g .exact some .0, length-drop (n * containerSize w) bs ∙ (let x = g .exact some .1 in omega arith))), ap (λ j. readFile w j (file w ds ++ z)) (sym ld) ∙ reads-behind w ds z fits);
     }
 
 front2 : (w : ℕ) (rs : List Rec) (z : List ℕ) → take 2 (containerBytes w rs ++ z) ≡ take 2 (containerBytes w rs)

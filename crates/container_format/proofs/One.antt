@@ -29,7 +29,7 @@ bytes-entries w off (r ∷ rs) h =
     let level = h .0 .level in
     joins (entry off r) (entries (off + length (r .payload)) rs)
     (joins (r .fingerprint) (r .level ∷ 0 ∷ (little 2 (length (r .payload)) ++ little 4 off)) (h .0 .typed .fingerprint)
-      (omega arith, (omega arith, joins (little 2 (length (r .payload))) (little 4 off) (bytes-little 2 (length (r .payload))) (bytes-little 4 off))))
+    (omega arith, (omega arith, joins (little 2 (length (r .payload))) (little 4 off) (bytes-little 2 (length (r .payload))) (bytes-little 4 off))))
     (bytes-entries w (off + length (r .payload)) rs (h .1))
 
 bytes-payloads : (w : ℕ) (rs : List Rec) → All (Storable w) rs → Bytes (payloads rs)
@@ -61,4 +61,5 @@ one-file w cs h = (
     order = file-containers w cs (h .each);
     reads = reads-back w cs (h .each);
   },
-  λ bs f. containers-file w (length cs) bs (f .octets) (f .count .length) (f .order) .0 ∙ ap (file w) (f .reads))
+  λ bs f. containers-file w (length cs) bs (f .octets) (f .count .length) (f .order) .0 ∙ ap (file w) (f .reads),
+)

@@ -8,7 +8,7 @@ use lib.ListN.{length, getD, take, drop}
 use Rattle.std.proofs.shelf.Lists.{length-drop}
 use Rattle.container_format.specs.Layout.{bodyAt}
 use Rattle.container_format.specs.Reading.{lengthIn}
-use Rattle.container_format.specs.Checking.{EntryOk, EntriesOk, ContainerOk, Zeros}
+use Rattle.container_format.specs.Checking.{EntryOk, EntriesOk, ContainerOk, Zeros, HeaderOk}
 use Rattle.keys.specs.Octets.{number}
 use lib.Dec.{T}
 use mathlib.Core.Bool.{Bool}
@@ -54,7 +54,7 @@ module _ (w used count i off : ℕ) (rest body es bs : List ℕ) (h : Held w use
       let P : ℕ → Type 0 = λ n. EntriesOk w used n off rest body in
       bad ((subst P (less-one count i turn) (h .on all)) .0)
 
-pub container-both : (w count used : ℕ) (s es bs : List ℕ) (r : Bool) → count ≡ number (take 2 s) → used ≡ number (take 2 (drop 2 s)) → es ≡ take (63 * (w + 8)) (drop 16 s) → bs ≡ drop (bodyAt w) s → count ≤ 63 → Zeros (take 12 (drop 4 s)) → (T r → EntriesOk w used count 0 es bs) → (EntriesOk w used count 0 es bs → T r) → (T r → ContainerOk w s) × (ContainerOk w s → T r)
-container-both w count used s es bs r c u a b few zs good bad =
+pub container-both : (w used : ℕ) (s es bs : List ℕ) (r : Bool) → used ≡ number (take 2 (drop 2 s)) → es ≡ take (63 * (w + 8)) (drop 16 s) → bs ≡ drop (bodyAt w) s → HeaderOk s → (count : ℕ) → count ≡ number (take 2 s) → (T r → EntriesOk w used count 0 es bs) → (EntriesOk w used count 0 es bs → T r) → (T r → ContainerOk w s) × (ContainerOk w s → T r)
+container-both w used s es bs r u a b head count c good bad =
     let same : EntriesOk w used count 0 es bs ≡ EntriesOk w (number (take 2 (drop 2 s))) (number (take 2 s)) 0 (take (63 * (w + 8)) (drop 16 s)) (drop (bodyAt w) s) = λ z. EntriesOk w (u z) (c z) 0 (a z) (b z) in
-    (λ t. record { count = omega arith; zeros = zs; entries = subst (λ X. X) same (good t) }, λ ok. bad (subst (λ X. X) (sym same) (ok .entries)))
+    (λ t. record { header = head; entries = subst (λ X. X) same (good t) }, λ ok. bad (subst (λ X. X) (sym same) (ok .entries)))

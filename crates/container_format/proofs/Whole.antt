@@ -74,7 +74,7 @@ accepted w rs f =
     let t : EntriesOk w used (length rs) 0 (entries 0 rs ++ Z) (payloads rs ++ Y) = entries-ok w used 0 rs Z Y (f .each) (omega arith) (used-fits w rs f) (zeros-replicate _) (zeros-replicate _) in
     let same : EntriesOk w used (length rs) 0 (entries 0 rs ++ Z) (payloads rs ++ Y) ≡ EntriesOk w (number (take 2 (drop 2 (containerBytes w rs)))) (number (take 2 (containerBytes w rs))) 0 (take (63 * (w + 8)) (drop 16 (containerBytes w rs))) (drop (bodyAt w) (containerBytes w rs)) = λ i. EntriesOk w (sym u i) (sym k i) 0 (sym fr i) (sym bd i) in
     let cnt = f .fits .count in
-    record { count = omega arith; zeros = header-zeros w rs; entries = subst (λ X. X) same t }
+    record { header = record { count = omega arith; zeros = header-zeros w rs }; entries = subst (λ X. X) same t }
 
 -- slots in order are the file of what they read as
 pub containers-file : (w n : ℕ) (bs : List ℕ) → Bytes bs → length bs ≡ n * containerSize w → ContainersOk w n bs → (bs ≡ file w (readFile w n bs)) × All (Stored w) (readFile w n bs)
@@ -120,11 +120,11 @@ is-file w n bs b count ok =
     }
 
 -- the quotient is the only number whose length this can be
-pub no-count : (w size len : ℕ) → size ≡ containerSize w → (2 ≤ len / size → len / size ≤ 32 → len / size * size ≡ len → ⊥) → NoCount w len
+pub no-count : (w size len : ℕ) → size ≡ containerSize w → (Count w len (len / size) → ⊥) → NoCount w len
 no-count w size len s bad n some few l =
     let e : len ≡ n * size = l ∙ ap (λ k. n * k) (sym s) in
     let q : len / size ≡ n = ap (λ k. k / size) e ∙ mul-div-left n (omega arith) in
-    bad (omega arith) (omega arith) (ap (λ k. k * size) q ∙ sym e)
+    bad (subst (Count w len) (sym q) (record { some = some; few = few; length = l }))
 
 -- a file has the length of its containers
 pub no-list : (w : ℕ) (bs : List ℕ) → NoCount w (length bs) → NoFile w bs

@@ -59,10 +59,14 @@ abbrev pub EntriesOk : ℕ → ℕ → ℕ → ℕ → List ℕ → List ℕ →
 EntriesOk w used zero off es bs = (off ≡ used) × Zeros es × Zeros bs
 EntriesOk w used (suc k) off es bs = EntryOk w off es × EntriesOk w used k (off + lengthIn w es) (drop (w + 8) es) (drop (lengthIn w es) bs)
 
--- a container's bytes are in order
-pub record ContainerOk (w : ℕ) (s : List ℕ) : Type 0 where
+-- a container's header is in order
+pub record HeaderOk (s : List ℕ) : Type 0 where
   pub count : number (take 2 s) ≤ 63
   pub zeros : Zeros (take 12 (drop 4 s))
+
+-- a container's bytes are in order
+pub record ContainerOk (w : ℕ) (s : List ℕ) : Type 0 where
+  pub header : HeaderOk s
   pub entries : EntriesOk w (number (take 2 (drop 2 s))) (number (take 2 s)) 0 (take (63 * (w + 8)) (drop 16 s)) (drop (bodyAt w) s)
 
 -- n containers, one behind the other, are in order

@@ -2,14 +2,16 @@
 ghost use mathlib.Core.Path.{_≡_};
 ghost use Prim.Native.Nat.{_+_, _*_, _≤_};
 ghost use lib.Dec.{T};
-ghost use lib.ListN.{length};
+ghost use lib.ListN.{length, take};
 ghost use Rattle.std.specs.Options.{Cases as BySome};
+ghost use Rattle.keys.specs.Octets.{number};
 ghost use Rattle.container_format.specs.Layout.{containerSize};
 ghost use Rattle.container_format.specs.Reading.{lengthIn};
-ghost use Rattle.container_format.specs.Checking.{Zeros, EntryOk, EntriesOk, ContainerOk, ContainersOk, Checked, OneFile};
+ghost use Rattle.container_format.specs.Checking.{Zeros, EntryOk, EntriesOk, HeaderOk, ContainerOk, ContainersOk, Checked, OneFile};
 use crate::numbers::u16_at;
 use crate::numbers::u32_at;
 use crate::sizes::container_size;
+use crate::sizes::has_length;
 use keys::Fingerprint;
 use records::Cause;
 use records::Refusal;
@@ -35,7 +37,13 @@ fn entry_length(entries: &[u8], width: usize, offset: usize) -> Option<usize>
 {
     let len = u16_at(entries, width + 2);
     let named = u32_at(entries, width + 4);
-    if entries[width] <= 6 && entries[width + 1] == 0 && len >= 1 && len <= 1280 && named == offset && offset + len <= 7168 {
+    if entries[width] <= 6
+        && entries[width + 1] == 0
+        && len >= 1
+        && len <= 1280
+        && named == offset
+        && offset + len <= 7168
+    {
         Some(len)
     } else {
         None
@@ -67,6 +75,19 @@ fn entries_in_order(entries: &[u8], body: &[u8], width: usize, count: usize, use
     offset == used && all_zero(rest) && all_zero(left)
 }
 
+// The record count that a container's header names, if the header is in order.
+fn header_count(bytes: &[u8]) -> Option<usize>
+    requires { ⌜ 16 ≤ length (now bytes) ⌝ }
+    ensures { λ r. ⌜ BySome r (HeaderOk (now (bytes .entry)) → ⊥) (λ n. HeaderOk (now (bytes .entry)) × (n ≡ number (take 2 (now (bytes .entry)))) × (n ≤ 63)) ⌝ }
+{
+    let count = u16_at(bytes, 0);
+    if count <= 63 && all_zero(&bytes[4..16]) {
+        Some(count)
+    } else {
+        None
+    }
+}
+
 // Whether the bytes of one container follow the layout.
 fn container_in_order(bytes: &[u8], width: usize) -> bool
     requires narrow { ⌜ width ≤ 20 ⌝ }
@@ -74,13 +95,14 @@ fn container_in_order(bytes: &[u8], width: usize) -> bool
     ensures yes { λ r. ⌜ (T r → ContainerOk width (now (bytes .entry))) ⌝ }
     ensures no { λ r. ⌜ (ContainerOk width (now (bytes .entry)) → T r) ⌝ }
 {
-    let count = u16_at(bytes, 0);
-    let used = u16_at(bytes, 2);
     let body = 16 + 63 * (width + 8);
-    if count > 63 || !all_zero(&bytes[4..16]) {
-        return false;
+    match header_count(bytes) {
+        Some(count) => {
+            let used = u16_at(bytes, 2);
+            entries_in_order(&bytes[16..body], &bytes[body..], width, count, used)
+        }
+        None => false,
     }
-    entries_in_order(&bytes[16..body], &bytes[body..], width, count, used)
 }
 
 // Whether `count` containers, one behind the other, follow the layout.
@@ -108,7 +130,7 @@ pub fn check<F: Fingerprint>(bytes: &[u8]) -> Result<usize, Refusal>
 {
     let size = container_size::<F>();
     let count = bytes.len() / size;
-    if count < 2 || count > 32 || count * size != bytes.len() {
+    if !has_length::<F>(bytes.len(), count) {
         return Err(Refusal::of(Cause::Size));
     }
     if containers_in_order(bytes, F::width(), size, count) {

@@ -7,3 +7,4 @@ pub use acceptance::check;
 pub use numbers::u16_at;
 pub use numbers::u32_at;
 pub use sizes::container_size;
+pub use sizes::has_length;

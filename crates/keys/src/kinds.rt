@@ -1,21 +1,30 @@
 // The two kinds of key, and the home number that every key has.
+ghost use mathlib.Core.List.{_∷_};
 ghost use mathlib.Core.Path.{_≡_};
 ghost use Rattle.keys.specs.Octets.{sameBytes};
-ghost use Rattle.keys.specs.Encodings.{homeNumber, pairBytes, pairOf, fnvBytes, fnvOf, fnvNaming};
+ghost use Rattle.keys.specs.Hashing.{fnv1a};
+ghost use Rattle.keys.specs.Encodings.{homeNumber, pairBytes, pairOf, fnvBytes, fnvOf, fnvNumbered, fnvNaming};
 use crate::fingerprint::Fingerprint;
 use crate::fnv::Fnv;
 use crate::hash::hash_behind;
 use crate::key::Key;
 use crate::pair::Pair;
 
-// The key's home number under a seed: where a table begins to look for it, and which bits of a filter it has.
-pub fn home<K: Key>(key: K, seed: u8) -> u64
-    ensures { λ r. ⌜ r ≡ homeNumber seed (K·Key .bytes key) ⌝ }
+// The hash of a byte and then a key's bytes.
+fn hash_key<K: Key>(first: u8, key: K) -> u64
+    ensures { λ r. ⌜ r ≡ fnv1a (first ∷ K·Key .bytes key) ⌝ }
 {
     let width = K::width();
     let mut buffer = [0u8; 20];
     let _ = key.write(&mut buffer);
-    hash_behind(seed, &buffer[0..width])
+    hash_behind(first, &buffer[0..width])
+}
+
+// The key's home number under a seed: where a table begins to look for it, and which bits of a filter it has.
+pub fn home<K: Key>(key: K, seed: u8) -> u64
+    ensures { λ r. ⌜ r ≡ homeNumber seed (K·Key .bytes key) ⌝ }
+{
+    hash_key(seed, key)
 }
 
 // Whether a fingerprint is the one of a level and a payload.
@@ -39,13 +48,13 @@ pub impl Key for Pair as PairKey {
     }
 
     fn read(from: &[u8]) -> Option<Pair> {
-        match from {
-            [level, container, ..] => Some(Pair {
-                level: *level,
-                container: *container,
-            }),
-            _ => None,
-        }
+        let [level, container, ..] = from else {
+            return None;
+        };
+        Some(Pair {
+            level: *level,
+            container: *container,
+        })
     }
 
     fn write(self, to: &mut [u8]) -> bool {
@@ -60,6 +69,13 @@ pub impl Key for Pair as PairKey {
     fn same(self, other: Pair) -> bool {
         self.level == other.level && self.container == other.container
     }
+}
+
+// The fingerprint of a number.
+fn numbered(number: u64) -> Fnv
+    ensures { λ r. ⌜ r ≡ fnvNumbered number ⌝ }
+{
+    Fnv { number }
 }
 
 pub impl Key for Fnv as FnvKey {
@@ -103,8 +119,6 @@ pub impl Fingerprint for Fnv as FnvFingerprint {
     ghost naming = { fnvNaming };
 
     fn of(level: u8, payload: &[u8]) -> Fnv {
-        Fnv {
-            number: hash_behind(level, payload),
-        }
+        numbered(hash_behind(level, payload))
     }
 }

@@ -42,6 +42,8 @@ pub impl Fingerprint for OneByte as OneByteFingerprint {
     ghost naming = { lowNaming };
 
     fn of(level: u8, payload: &[u8]) -> OneByte {
-        OneByte { value: (hash_behind(level, payload) % 256) as u8 }
+        OneByte {
+            value: (hash_behind(level, payload) % 256) as u8,
+        }
     }
 }

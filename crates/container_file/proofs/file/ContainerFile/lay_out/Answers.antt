@@ -13,7 +13,7 @@ use Rattle.container_file.proofs.file.ContainerFile.lay_out.Needs.{After-width
 counted : (g : given.Over) (c : need.After-width g) → Count (g .F·Key .width) (length (vec-items (c .args .bytes))) (c .args .count)
 counted g c =
     let l : c .len .result ≡ length (vec-items (c .args .bytes)) = c .len .ensures ∙ c .args .bytes .ok .0 in
-    record { some = c .if-count-lt2 .left; few = c .if-count-gt32 .left; length = sym l ∙ c .if-len-count .left ∙ ap (λ k. c .args .count * k) (c .container-size-size .ensures) }
+    subst (λ n. Count (g .F·Key .width) n (c .args .count)) l (c .if-not-has-length .ensures tt .yes tt)
 
 zeroed : (g : given.Over) (c : need.After-width g) → Laid (g .F·Key .width) (c .args .count) (vec-items (c .args .bytes)) (vec-items (c .zero .last .bytes))
 zeroed g c =

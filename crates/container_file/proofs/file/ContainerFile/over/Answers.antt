@@ -15,8 +15,8 @@ opened g c =
     let P : ℕ → Type 0 = λ n. Opened w n bs in
     let narrow = g .F·Key·met .narrow in
     elim (c .match-check .came) [
-      in-Ok x ↦ subst P (sym (x .count-is)) (opened-file w (x .in-Ok .count) bs narrow (subst (IsFile w (x .in-Ok .count)) (c .deref .ensures .value) (x .in-Ok .ensures tt .answer)))
-    | in-Err x ↦ subst P (sym (x .count-is)) (opened-none w bs narrow (subst (NoFile w) (c .deref .ensures .value) (x .in-Err .ensures tt .answer .0)))
+      | in-Ok x ↦ subst P (sym (x .count-is)) (opened-file w (x .in-Ok .count) bs narrow (subst (IsFile w (x .in-Ok .count)) (c .deref .ensures .value) (x .in-Ok .ensures tt .answer)))
+      | in-Err x ↦ subst P (sym (x .count-is)) (opened-none w bs narrow (subst (NoFile w) (c .deref .ensures .value) (x .in-Err .ensures tt .answer .0)))
     ]
 
 pub ghost-result : need.ghost-result
