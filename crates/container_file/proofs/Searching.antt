@@ -6,26 +6,20 @@ use Prim.Native.Nat.{ℕ, _+_, _<_, _≤_}
 use native.Mathlib.Omega.{arith}
 use lib.Dec.{ltb, leb}
 use lib.ListN.{length, getD, take, drop}
-use Rattle.std.proofs.shelf.Elements.{all-getD}
-use Rattle.std.proofs.shelf.Lists.{length-drop, getD-past}
+use Rattle.std.proofs.shelf.Lists.{length-drop}
 use Rattle.std.proofs.shelf.Tests.{lt-ltb, le-ltb, le-leb, cases-lt}
 use mathlib.Core.Logic.{_⊎_, inl, inr, ⊎-elim}
 use Rattle.std.specs.Results.{okPart}
 use Rattle.std.specs.declared.option.Option.{Option}
 use Rattle.std.specs.declared.option.Option.the-variants.{Some, None}
 use Rattle.std.specs.declared.result.Result.the-variants.{Ok, Err}
-use Rattle.std.specs.shelf.Lists.{All}
 use Rattle.keys.specs.Octets.{Bytes}
-use Rattle.records.specs.Limits.{Typed, Fits}
-use Rattle.records.specs.Records.{Rec, Contents, noRecord}
+use Rattle.records.specs.Records.{Rec, Contents}
 use Rattle.records.specs.Refusals.{untold}
 use Rattle.records.specs.declared.refusal.Cause.the-variants.{NoSuchPlace}
 use Rattle.records.specs.declared.refusal.Place.{Place}
+use Rattle.devices.proofs.Holding.{answer-there, typed-at}
 use Rattle.devices.specs.Questions.{Held, recordsOf, recordAt, ofRecord}
-
--- an answer about a record that is there
-pub answer-there : {X : Type 0} (f : Rec → X) (cs : Contents) (p : Place) → p .index < length (recordsOf cs (p .container)) → ofRecord f cs p ≡ Ok (f (recordAt cs p))
-answer-there f cs p h = ap (λ b. cond b (Ok (f (recordAt cs p))) (Err (untold NoSuchPlace))) (lt-ltb (p .index) (length (recordsOf cs (p .container))) h)
 
 -- what a key reads off the front, where there are bytes enough
 pub read-front : {K : Type 0} (key : List ℕ → K) (w at : ℕ) (bs rest : List ℕ) (r : Option K) → at + w ≤ length bs → rest ≡ drop at bs → r ≡ cond (leb w (length rest)) (Some (key (take w rest))) None → r ≡ Some (key (take w (drop at bs)))
@@ -41,22 +35,6 @@ there-or-not f cs p =
     (λ h. inl (h, ap okPart (answer-there f cs p h)))
     (λ h. inr (h, ap (λ b. okPart (cond b (Ok (f (recordAt cs p))) (Err (untold NoSuchPlace)))) (le-ltb (p .index) (length (recordsOf cs (p .container))) h)))
     (cases-lt (p .index) (length (recordsOf cs (p .container))))
-
--- the records of a container are within the limits, also where there is no such container
-pub few-records : (w : ℕ) (cs : Contents) (c : ℕ) → Held w cs → length (recordsOf cs c) ≤ 63
-few-records w cs c h =
-    ⊎-elim
-    (λ here. all-getD Fits cs c [] here (h .fits) .count)
-    (λ past. let e = ap length (getD-past cs c [] past) in omega arith)
-    (cases-lt c (length cs))
-
--- a stored fingerprint is the bytes of the key that it reads as
-pub typed-at : (w : ℕ) (cs : Contents) (p : Place) → Held w cs → p .index < length (recordsOf cs (p .container)) → Typed w (recordAt cs p)
-typed-at w cs p h inside =
-    ⊎-elim
-    (λ here. all-getD (Typed w) (recordsOf cs (p .container)) (p .index) noRecord inside (all-getD (All (Typed w)) cs (p .container) [] here (h .typed)))
-    (λ past. absurd (let e = ap length (getD-past cs (p .container) [] past) in omega arith))
-    (cases-lt (p .container) (length cs))
 
 -- the fingerprint that was found at a place is the one stored there
 pub found-there : {K : Type 0} (bytes : K → List ℕ) (key : List ℕ → K) (w : ℕ) → ((bs : List ℕ) → length bs ≡ w → Bytes bs → bytes (key bs) ≡ bs) → (cs : Contents) (p : Place) (f : K) → Held w cs → Some f ≡ okPart (ofRecord (λ x. key (x .fingerprint)) cs p) → (p .index < length (recordsOf cs (p .container))) × (bytes f ≡ recordAt cs p .fingerprint)

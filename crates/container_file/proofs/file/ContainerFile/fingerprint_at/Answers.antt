@@ -6,7 +6,8 @@ use Rattle.std.specs.Of.Vec.{vec-items}
 use Rattle.std.specs.Results.{okPart}
 use Rattle.std.specs.declared.option.Option.the-variants.{Some}
 use Rattle.container_file.specs.Meaning.{contentsOf}
-use Rattle.container_file.proofs.Searching.{answer-there, read-front}
+use Rattle.devices.proofs.Holding.{answer-there}
+use Rattle.container_file.proofs.Searching.{read-front}
 use Rattle.container_file.proofs.file.ContainerFile.fingerprint_at.Needs as need
 
 pub returns : need.returns

@@ -9,9 +9,10 @@ use Rattle.records.specs.Records.{Rec, noRecord}
 use Rattle.records.specs.declared.refusal.Place.{Place}
 use Rattle.records.proofs.Places.{place-here, place-more, place-all}
 use Rattle.devices.specs.Questions.{recordsOf}
+use Rattle.devices.proofs.Holding.{few-records}
 use Rattle.container_file.specs.Meaning.{contentsOf}
 use Rattle.container_file.proofs.Held.{held-file}
-use Rattle.container_file.proofs.Searching.{found-there, none-found, few-records}
+use Rattle.container_file.proofs.Searching.{found-there, none-found}
 use Rattle.container_file.proofs.file.ContainerFile.first_in.Needs as need
 
 pub returns-then-same : need.returns-then-same
