@@ -3,6 +3,8 @@
 
     make_containers.py sample FILE     the file that the listing of the gate shows
     make_containers.py listing FILE    what the program must list of a file
+    make_containers.py copied FILE     what the program must say of its copy
+    make_containers.py sets FILE BYTES PLACE ..   what the program must say of its live sets
     make_containers.py damages FILE    the lines that turn a file's bytes, and on standard output what each must get
 
 A record is (level, payload); its fingerprint is FNV-1a of the level byte and then the payload.
@@ -140,8 +142,43 @@ def listing(data, width=8):
             yield "  record %d: level %d, fingerprint %s (%s), %d bytes" % (i, level, part[at:at + width].hex(), named, length)
 
 
+def fingerprints(data):
+    """The place and the fingerprint of every record."""
+    for c in range(len(data) // size()):
+        part = data[c * size():(c + 1) * size()]
+        for i in range(struct.unpack_from("<H", part)[0]):
+            yield (c, i), part[16 + i * 16:24 + i * 16]
+
+
+def sets(data, length, marked):
+    """What the exact table and a Bloom filter of some bytes say when the records at the places given are marked."""
+    bits = lambda key: {fnv1a(bytes([s]) + key) % (8 * length) for s in range(4)}
+    all_ = list(fingerprints(data))
+    live = {key for place, key in all_ if place in marked}
+    filled = set().union(*(bits(key) for key in live))
+    yield "%d records, %d named, a filter of %d bytes" % (len(all_), len(marked), length)
+    false = [place for place, key in all_ if key not in live and bits(key) <= filled]
+    for c, i in false:
+        yield "record %d of container %d: the filter says yes, and it was not marked" % (i, c)
+    yield "the exact table says yes to %d, the filter to %d more" % (sum(key in live for _, key in all_), len(false))
+
+
+def copied(data):
+    """What a copy of a file reports."""
+    heads = [struct.unpack_from("<HH", data, c * size()) for c in range(len(data) // size())]
+    totals = (sum(r for r, _ in heads), sum(b for _, b in heads), len(heads))
+    yield "moved %d records with %d payload bytes in %d containers, by way of a tape" % totals
+    yield "the files are equal, byte for byte"
+
+
 def main():
     what, path = sys.argv[1:3]
+    if what in ("sets", "copied"):
+        with open(path, "rb") as file:
+            data = file.read()
+        places = {tuple(map(int, word.split("."))) for word in sys.argv[4:]}
+        print("\n".join(copied(data) if what == "copied" else sets(data, int(sys.argv[3]), places)))
+        return
     if what == "listing":
         with open(path, "rb") as file:
             print("\n".join(listing(file.read())))

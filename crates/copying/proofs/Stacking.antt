@@ -44,8 +44,8 @@ append-here cs c r e =
     ⊎-elim
     (λ here. here)
     (λ past.
-      let none : appendAnswer cs c r ≡ Err (untold NoSuchPlace) = ap (λ b. cond b (cond (storable r) (cond (takes (recordsOf cs c) r) (Ok tt) (Err (untold ContainerFull))) (Err (untold Shape))) (Err (untold NoSuchPlace))) (le-ltb c (length cs) past) in
-      absurd (let z : _≡_ {A = ℕ} 0 1 = cc in omega arith))
+    let none : appendAnswer cs c r ≡ Err (untold NoSuchPlace) = ap (λ b. cond b (cond (storable r) (cond (takes (recordsOf cs c) r) (Ok tt) (Err (untold ContainerFull))) (Err (untold Shape))) (Err (untold NoSuchPlace))) (le-ltb c (length cs) past) in
+    absurd (let z : _≡_ {A = ℕ} 0 1 = cc in omega arith))
     (cases-lt c (length cs))
 
 -- a record that was accepted is behind the others
@@ -63,11 +63,11 @@ stacked-none (d ∷ ds) = refl
 pub stacked-one : (ds cs : Contents) (k : ℕ) → k < length cs → withMore (stacked ds (take k cs)) k (recordsOf cs k) ≡ stacked ds (take (k + 1) cs)
 stacked-one ds cs k h = go ds cs k h ∙ ap (λ n. stacked ds (take n cs)) (sym (add-one k))
   where
-  go : (ds cs : Contents) (k : ℕ) → k < length cs → withMore (stacked ds (take k cs)) k (recordsOf cs k) ≡ stacked ds (take (suc k) cs)
-  go [] cs k h = refl
-  go (d ∷ ds) [] k h = absurd (omega arith)
-  go (d ∷ ds) (c ∷ cs) zero h = ap (λ xs. (d ++ c) ∷ xs) (sym (stacked-none ds))
-  go (d ∷ ds) (c ∷ cs) (suc k) h = ap (λ xs. (d ++ c) ∷ xs) (go ds cs k (omega arith))
+    go : (ds cs : Contents) (k : ℕ) → k < length cs → withMore (stacked ds (take k cs)) k (recordsOf cs k) ≡ stacked ds (take (suc k) cs)
+    go [] cs k h = refl
+    go (d ∷ ds) [] k h = absurd (omega arith)
+    go (d ∷ ds) (c ∷ cs) zero h = ap (λ xs. (d ++ c) ∷ xs) (sym (stacked-none ds))
+    go (d ∷ ds) (c ∷ cs) (suc k) h = ap (λ xs. (d ++ c) ∷ xs) (go ds cs k (omega arith))
 
 -- a device's own payload fits the buffer
 pub payload-told : (w : ℕ) (cs : Contents) (p : Place) → Held w cs → p .index < length (recordsOf cs (p .container)) → payloadAnswer cs p 7168 ≡ Ok (length (recordAt cs p .payload))

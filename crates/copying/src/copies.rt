@@ -14,7 +14,11 @@ use records::Place;
 use records::Refusal;
 
 // Appends a record of one device to the same container of another.
-fn copy_record<X: Device, Y: Device<Kind = X::Kind>>(from: &X, to: &mut Y, place: Place) -> Result<(), Refusal>
+fn copy_record<X: Device, Y: Device<Kind = X::Kind>>(
+    from: &X,
+    to: &mut Y,
+    place: Place,
+) -> Result<(), Refusal>
     requires { ⌜ place .index < length (recordsOf (X·Device .contents (now from)) (place .container)) ⌝ }
     ensures answer { λ r. ⌜ r ≡ appendAnswer (Y·Device .contents (now (to .entry))) (place .container) (recordAt (X·Device .contents (now (from .entry))) place) ⌝ }
     ensures after { λ _. ⌜ Y·Device .contents (now (to .exit)) ≡ appendAfter (Y·Device .contents (now (to .entry))) (place .container) (recordAt (X·Device .contents (now (from .entry))) place) ⌝ }
@@ -27,7 +31,11 @@ fn copy_record<X: Device, Y: Device<Kind = X::Kind>>(from: &X, to: &mut Y, place
 }
 
 // Appends the records of a container.
-fn copy_container<X: Device, Y: Device<Kind = X::Kind>>(from: &X, to: &mut Y, container: usize) -> Result<(), Refusal>
+fn copy_container<X: Device, Y: Device<Kind = X::Kind>>(
+    from: &X,
+    to: &mut Y,
+    container: usize,
+) -> Result<(), Refusal>
     requires { ⌜ container < length (X·Device .contents (now from)) ⌝ }
     ensures { λ r. ⌜ MovedOne (recordsOf (X·Device .contents (now (from .entry))) container) (Y·Device .contents (now (to .entry))) container r (Y·Device .contents (now (to .exit))) ⌝ }
 {
@@ -39,7 +47,10 @@ fn copy_container<X: Device, Y: Device<Kind = X::Kind>>(from: &X, to: &mut Y, co
 }
 
 // Appends the records of all containers.
-fn copy_containers<X: Device, Y: Device<Kind = X::Kind>>(from: &X, to: &mut Y) -> Result<(), Refusal>
+fn copy_containers<X: Device, Y: Device<Kind = X::Kind>>(
+    from: &X,
+    to: &mut Y,
+) -> Result<(), Refusal>
     ensures { λ r. ⌜ MovedAll (X·Device .contents (now (from .entry))) (Y·Device .contents (now (to .entry))) r (Y·Device .contents (now (to .exit))) ⌝ }
 {
     for container in 0..from.count() {

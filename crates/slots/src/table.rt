@@ -13,7 +13,7 @@ use crate::slot::Slot;
 use crate::walk::probe_for;
 use keys::Key;
 
-// Whether a table without slots, or told to hold no key, holds nothing for sure.
+// Whether the table holds nothing for sure: it has no slots, or is told to hold no key.
 fn holds_nothing<K>(slots: &[Slot<K>], count: usize) -> bool
     ensures { λ r. ⌜ r ≡ (eqb (length (now (slots .entry))) 0 || eqb count 0) ⌝ }
 {

@@ -9,6 +9,3 @@ mod walk;
 pub use device::TapeDevice;
 pub use layout::tape_size;
 pub use tape::Tape;
-
-#[cfg(test)]
-mod tests;

@@ -36,11 +36,11 @@ returns g c =
     let told = payload-told w cs p held (c .pre) in
     let len : c .in-Continue-len .len ≡ length (r .payload) = same-ok _ _ _ (c .in-Continue-len .ensures tt .answer) told in
     let filled : c .payload .last .to ≡ r .payload ++ drop (length (r .payload)) (replicate 7168 0) =
-        c .payload .ensures .buffer ∙ ap (λ a. cond (isOk a) (r .payload ++ drop (length (r .payload)) (replicate 7168 0)) (replicate 7168 0)) told
+    c .payload .ensures .buffer ∙ ap (λ a. cond (isOk a) (r .payload ++ drop (length (r .payload)) (replicate 7168 0)) (replicate 7168 0)) told
     in
     let z : c .in-Continue-len .len - 0 ≡ length (r .payload) = (let e = len in omega arith) in
     let payload : take (c .in-Continue-len .len - 0) (c .payload .last .to) ≡ r .payload = (λ i. take (z i) (filled i)) ∙ take-at (r .payload) _ _ refl in
     let same : _≡_ {A = Rec} (record { level = c .in-Continue-level .level; fingerprint = g .Kind·Key .bytes (c .in-Continue-fingerprint .fingerprint); payload = take (c .in-Continue-len .len - 0) (c .payload .last .to) }) r =
-        λ i. record { level = level i; fingerprint = name i; payload = payload i }
+    λ i. record { level = level i; fingerprint = name i; payload = payload i }
     in
     record { answer = c .append .ensures .answer ∙ ap (appendAnswer ds (p .container)) same; after = c .append .ensures .after ∙ ap (appendAfter ds (p .container)) same }

@@ -1,0 +1,6 @@
+// The command girvoupa copy, as the gate runs it.
+use std::error::AnyError;
+
+fn main(rt: LibcRuntime) -> Result<(), AnyError> {
+    rt.report(commands::run(&rt))
+}
