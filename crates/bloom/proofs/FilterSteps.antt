@@ -1,11 +1,10 @@
 -- What sealing and marking do to a filter, from what they do to its bytes.
 use mathlib.Core.Path.{_≡_, refl, sym, ap, _∙_}
-use mathlib.Core.Bool.{Bool, true, false, not, _||_}
+use mathlib.Core.Bool.{true, not, _||_}
 use mathlib.Core.List.{List}
 use Prim.Native.Nat.{ℕ}
 use lib.ListN.{drop}
-use Rattle.std.proofs.shelf.Tests.{or-right}
-use Rattle.live.specs.Meaning.{Sealed, Noted}
+use Rattle.live.specs.Meaning.{Noted}
 use Rattle.live.proofs.Lending.{differ}
 use Rattle.bloom.specs.Bits.{used, allFour, withFour, cleared}
 use Rattle.bloom.specs.Filter.{bitsOf, filterMeaning, FilterSeal, FilterMark}

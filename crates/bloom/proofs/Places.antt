@@ -1,7 +1,7 @@
 -- Bits that are set stay set, and cleared bytes have none.
 use mathlib.Core.Path.{_≡_, refl, sym, ap, _∙_, subst}
-use mathlib.Core.Bool.{Bool, true, false, _&&_, _||_, cond}
-use mathlib.Core.List.{List, [], _∷_, _++_}
+use mathlib.Core.Bool.{Bool, true, false, _||_, cond}
+use mathlib.Core.List.{List, _++_}
 use mathlib.Core.Logic.{_⊎_, inl, inr}
 use Prim.Native.Nat.{ℕ, zero, suc, _+_, _*_, _/_, _%_, _^_, _<_, _≤_, min}
 use native.Mathlib.Nat.{div-self, zero-div}
@@ -9,7 +9,7 @@ use native.Mathlib.Numerals.{add-one}
 use native.Mathlib.Omega.{arith}
 use lib.Bits.{bitOr, or-shr, or-mod, or-comm}
 use lib.Pow.{pow-pos}
-use lib.Dec.{eqb, lit<}
+use lib.Dec.{eqb}
 use lib.ListN.{length, getD, set, replicate, drop}
 use Rattle.std.proofs.shelf.Lists.{getD-set-same, getD-set-other, length-set, length-replicate, length-append, length-drop, getD-append-left, getD-replicate, drop-set-lt}
 use Rattle.std.proofs.shelf.Bits.{mod-below}

@@ -1,17 +1,16 @@
 -- Three writes into a container that append a record to it.
 use mathlib.Core.Path.{_≡_, refl, sym, ap, _∙_, subst}
 use mathlib.Core.List.{List, [], _∷_, _++_}
-use Prim.Native.Nat.{ℕ, zero, suc, min, _+_, _-_, _*_, _/_, _%_, _^_, _<_, _≤_}
-use native.Mathlib.Nat.{suc-mul, add-mul, add-comm, mul-le-mul-right, le-trans, le-of-eq}
+use Prim.Native.Nat.{ℕ, _+_, _-_, _*_, _<_, _≤_}
+use native.Mathlib.Nat.{add-mul}
 use native.Mathlib.Omega.{arith}
 use lib.ListN.{length, getD, take, drop, replicate, set}
-use Rattle.std.specs.shelf.Lists.{All}
-use Rattle.std.proofs.shelf.Lists.{append-assoc, append-nil, take-at, drop-at, drop-drop, take-append-drop, length-append, length-replicate, length-take-le, length-drop, length-set, replicate-append-replicate}
-use Rattle.std.proofs.shelf.Elements.{all-push, all-take, all-getD, all-set}
-use Rattle.keys.specs.Octets.{little, number}
+use Rattle.std.proofs.shelf.Lists.{append-assoc, append-nil, take-at, drop-at, drop-drop, take-append-drop, length-append, length-replicate, length-take-le, length-drop, replicate-append-replicate}
+use Rattle.std.proofs.shelf.Elements.{all-push}
+use Rattle.keys.specs.Octets.{little}
 use Rattle.records.specs.Limits.{Storable, Stored}
 use Rattle.records.specs.Records.{Rec}
-use Rattle.container_format.specs.Layout.{payloads, entry, entries, bodyAt, containerSize, containerBytes, file}
+use Rattle.container_format.specs.Layout.{payloads, entry, entries, bodyAt, containerSize, containerBytes}
 use Rattle.container_format.specs.Reading.{readFile}
 use Rattle.container_format.specs.Checking.{Intact}
 use Rattle.container_format.specs.Writing.{written}

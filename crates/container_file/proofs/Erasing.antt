@@ -1,12 +1,11 @@
 -- A container of zero bytes is free.
-use mathlib.Core.Path.{_≡_, refl, sym, ap, _∙_, subst}
-use mathlib.Core.List.{List, [], _∷_, _++_}
-use Prim.Native.Nat.{ℕ, _+_, _-_, _*_, _<_, _≤_}
+use mathlib.Core.Path.{_≡_, sym, ap, _∙_, subst}
+use mathlib.Core.List.{List, [], _++_}
+use Prim.Native.Nat.{ℕ, _+_, _-_, _*_, _<_}
 use native.Mathlib.Omega.{arith}
 use lib.ListN.{length, getD, set, replicate}
-use Rattle.std.proofs.shelf.Lists.{length-replicate, replicate-append-replicate}
+use Rattle.std.proofs.shelf.Lists.{replicate-append-replicate}
 use Rattle.records.specs.Limits.{Stored}
-use Rattle.records.specs.Records.{Rec}
 use Rattle.container_format.specs.Layout.{containerSize, containerBytes}
 use Rattle.container_format.specs.Reading.{readFile}
 use Rattle.container_format.specs.Checking.{Intact}

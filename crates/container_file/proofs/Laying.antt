@@ -1,21 +1,21 @@
 -- A file of zero bytes has free containers, and a file's bytes are those of what it holds.
 use mathlib.Core.Path.{_≡_, refl, sym, ap, _∙_, subst}
-use mathlib.Core.List.{List, [], _∷_, _++_}
-use Prim.Native.Nat.{ℕ, zero, suc, _+_, _-_, _*_, _<_, _≤_}
+use mathlib.Core.List.{List, [], _++_}
+use Prim.Native.Nat.{ℕ, zero, suc, _+_, _-_, _*_, _≤_}
 use native.Mathlib.Nat.{suc-mul, zero-mul, add-comm}
 use native.Mathlib.Omega.{arith}
-use lib.ListN.{length, replicate, take, drop}
+use lib.ListN.{length, replicate, take}
 use Rattle.std.proofs.shelf.Lists.{length-replicate, replicate-append-replicate, drop-all, append-nil, take-all}
 use Rattle.std.specs.Of.Vec.{vec-items}
 use Rattle.std.specs.shelf.Lists.{All}
 use Rattle.records.specs.Limits.{Stored, Limits}
-use Rattle.records.specs.Records.{Rec, Contents}
-use Rattle.container_format.specs.Layout.{containerSize, containerBytes, file}
+use Rattle.records.specs.Records.{Rec}
+use Rattle.container_format.specs.Layout.{containerSize, file}
 use Rattle.container_format.specs.Reading.{readFile}
 use Rattle.container_format.specs.Checking.{Intact, Count}
 use Rattle.container_format.specs.Writing.{written}
 use Rattle.container_format.proofs.Files.{intact-made, reads-behind, length-readFile}
-use Rattle.container_file.specs.Meaning.{readAs, contentsOf}
+use Rattle.container_file.specs.Meaning.{contentsOf}
 use Rattle.container_file.specs.declared.file.ContainerFile.{ContainerFile}
 use Rattle.container_file.proofs.Erasing.{zero-container, stored-none}
 use Rattle.container_file.proofs.Held.{held-here, held-same, intact}

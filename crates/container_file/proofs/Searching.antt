@@ -1,13 +1,13 @@
 -- What is found at a place of a file, by its answers.
-use mathlib.Core.Path.{_≡_, refl, sym, ap, _∙_, subst}
+use mathlib.Core.Path.{_≡_, ap, _∙_}
 use mathlib.Core.Bool.{cond}
-use mathlib.Core.List.{List, []}
+use mathlib.Core.List.{List}
 use Prim.Native.Nat.{ℕ, _+_, _<_, _≤_}
 use native.Mathlib.Omega.{arith}
 use lib.Dec.{ltb, leb}
-use lib.ListN.{length, getD, take, drop}
+use lib.ListN.{length, take, drop}
 use Rattle.std.proofs.shelf.Lists.{length-drop}
-use Rattle.std.proofs.shelf.Tests.{lt-ltb, le-ltb, le-leb, cases-lt}
+use Rattle.std.proofs.shelf.Tests.{le-ltb, le-leb, cases-lt}
 use mathlib.Core.Logic.{_⊎_, inl, inr, ⊎-elim}
 use Rattle.std.specs.Results.{okPart}
 use Rattle.std.specs.declared.option.Option.{Option}

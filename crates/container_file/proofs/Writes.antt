@@ -1,11 +1,10 @@
 -- The four writes of the code are the three that append a record.
 use mathlib.Core.Path.{_≡_, refl, sym, ap, _∙_, subst}
 use mathlib.Core.List.{List, [], _∷_, _++_}
-use Prim.Native.Nat.{ℕ, zero, suc, _+_, _-_, _*_, _<_, _≤_}
-use native.Mathlib.Nat.{add-assoc}
+use Prim.Native.Nat.{ℕ, _+_, _-_, _*_, _<_, _≤_}
 use native.Mathlib.Omega.{arith}
-use lib.ListN.{length, getD, take, drop, set}
-use Rattle.keys.specs.Octets.{little, number}
+use lib.ListN.{length, getD, set}
+use Rattle.keys.specs.Octets.{little}
 use Rattle.records.specs.Limits.{Storable}
 use Rattle.records.specs.Records.{Rec}
 use Rattle.container_format.specs.Layout.{payloads, entry, bodyAt, containerSize}

@@ -1,13 +1,13 @@
 -- A container that is in order is written of what it reads as.
 use mathlib.Core.Path.{_≡_, refl, sym, ap, _∙_, subst}
 use mathlib.Core.List.{List, [], _∷_, _++_}
-use Prim.Native.Nat.{ℕ, zero, suc, min, _+_, _-_, _*_, _/_, _%_, _^_, _<_, _≤_}
+use Prim.Native.Nat.{ℕ, zero, suc, _+_, _-_, _*_, _<_, _≤_}
 use native.Mathlib.Nat.{suc-mul, add-mul}
 use native.Mathlib.Omega.{arith}
 use lib.ListN.{length, getD, take, drop, replicate}
 use Rattle.std.specs.shelf.Lists.{All}
-use Rattle.std.proofs.shelf.Lists.{append-assoc, take-at, drop-at, getD-at, drop-drop, drop-more, take-append-le, drop-append-le, getD-append-left, take-append-drop, length-append, length-replicate, length-take-le, length-drop}
-use Rattle.std.proofs.shelf.Elements.{all-take, all-drop, all-getD}
+use Rattle.std.proofs.shelf.Lists.{append-assoc, drop-drop, drop-more, take-append-le, drop-append-le, getD-append-left, take-append-drop, length-append, length-take-le, length-drop}
+use Rattle.std.proofs.shelf.Elements.{all-take, all-drop}
 use Rattle.keys.specs.Octets.{little, number}
 use Rattle.keys.proofs.Little.{little-take}
 use Rattle.keys.specs.Octets.{Bytes}

@@ -1,13 +1,13 @@
 -- A file cut around one of its containers, and what stands there.
 use mathlib.Core.Path.{_≡_, refl, sym, ap, _∙_, subst}
 use mathlib.Core.List.{List, [], _∷_, _++_}
-use Prim.Native.Nat.{ℕ, zero, suc, min, _+_, _-_, _*_, _/_, _%_, _^_, _<_, _≤_}
-use native.Mathlib.Nat.{suc-mul, add-mul, add-comm, mul-le-mul-right, le-trans, le-of-eq}
+use Prim.Native.Nat.{ℕ, zero, suc, _+_, _-_, _*_, _<_, _≤_}
+use native.Mathlib.Nat.{suc-mul, add-comm, mul-le-mul-right, le-trans, le-of-eq}
 use native.Mathlib.Omega.{arith}
 use lib.ListN.{length, getD, take, drop, replicate, set}
 use Rattle.std.specs.shelf.Lists.{All}
-use Rattle.std.proofs.shelf.Lists.{append-assoc, append-nil, take-at, drop-at, drop-drop, take-append-drop, length-append, length-replicate, length-take-le, length-drop, length-set, replicate-append-replicate}
-use Rattle.std.proofs.shelf.Elements.{all-push, all-take, all-getD, all-set}
+use Rattle.std.proofs.shelf.Lists.{append-assoc, take-at, drop-at, drop-drop, take-append-drop, length-append, length-take-le, length-drop, length-set}
+use Rattle.std.proofs.shelf.Elements.{all-take, all-getD, all-set}
 use Rattle.keys.specs.Octets.{little, number}
 use Rattle.records.specs.Limits.{Stored}
 use Rattle.records.specs.Records.{Rec, Contents}

@@ -1,12 +1,11 @@
 -- Where the record of a place stands in a file.
-use mathlib.Core.Path.{_≡_, refl, sym, ap, _∙_, subst}
+use mathlib.Core.Path.{_≡_, refl, sym, ap, _∙_}
 use mathlib.Core.List.{List, [], _∷_, _++_}
-use Prim.Native.Nat.{ℕ, zero, suc, _+_, _-_, _*_, _^_, _<_, _≤_}
+use Prim.Native.Nat.{ℕ, zero, suc, _+_, _-_, _*_, _<_, _≤_}
 use native.Mathlib.Omega.{arith}
 use native.Mathlib.Nat.{add-assoc}
-use lib.ListN.{length, getD, take, drop, set, replicate}
-use Rattle.std.specs.shelf.Lists.{All}
-use Rattle.std.proofs.shelf.Lists.{append-assoc, take-at, drop-at, getD-at, getD-drop, drop-drop, length-append, length-replicate, length-take-le}
+use lib.ListN.{length, getD, take, drop, replicate}
+use Rattle.std.proofs.shelf.Lists.{append-assoc, take-at, drop-at, getD-at, getD-drop, drop-drop, length-append, length-take-le}
 use Rattle.std.proofs.shelf.Elements.{all-take, all-getD}
 use Rattle.keys.specs.Octets.{little, number}
 use Rattle.keys.proofs.Little.{number-little}
@@ -15,7 +14,7 @@ use Rattle.records.specs.Records.{Rec, noRecord}
 use Rattle.container_format.specs.Layout.{payloads, entry, entries, bodyAt, containerSize}
 use Rattle.container_format.specs.Reading.{readFile, EntryOf}
 use Rattle.container_format.specs.Checking.{Intact}
-use Rattle.container_format.proofs.Round.{laid, laid-is, length-laid, from-w, length-entries, length-front, used-fits}
+use Rattle.container_format.proofs.Round.{laid, length-laid, from-w, length-entries, length-front, used-fits}
 use Rattle.container_format.proofs.Files.{around, container-form, intact-room, row-all}
 
 entries-cut : (off : ℕ) (rs : List Rec) (i : ℕ) → i < length rs → entries off rs ≡ entries off (take i rs) ++ (entry (off + length (payloads (take i rs))) (getD rs i noRecord) ++ entries (off + length (payloads (take i rs)) + length (getD rs i noRecord .payload)) (drop (suc i) rs))

@@ -1,14 +1,14 @@
 -- Every list of containers within the limits has exactly one file.
-use mathlib.Core.Path.{_≡_, refl, sym, ap, _∙_}
+use mathlib.Core.Path.{ap, _∙_}
 use mathlib.Core.List.{List, [], _∷_, _++_}
-use Prim.Native.Nat.{ℕ, zero, suc, _+_, _-_, _*_, _<_, _≤_}
+use Prim.Native.Nat.{ℕ, zero, suc, _+_, _-_, _*_, _<_}
 use native.Mathlib.Omega.{arith}
 use lib.ListN.{length, replicate}
 use Rattle.std.proofs.shelf.Elements.{all-append}
 use Rattle.std.specs.shelf.Lists.{All}
 use Rattle.keys.specs.Octets.{Bytes, little}
 use Rattle.keys.proofs.Little.{bytes-little}
-use Rattle.records.specs.Limits.{Storable, Stored, Limits}
+use Rattle.records.specs.Limits.{Storable, Stored}
 use Rattle.records.specs.Records.{Rec, Contents}
 use Rattle.container_format.specs.Layout.{entry, entries, payloads, containerBytes, file}
 use Rattle.container_format.specs.Checking.{OneFile}

@@ -1,8 +1,8 @@
 -- That a file is intact has one proof at most, so a ghost field can carry it.
-use mathlib.Core.Path.{_≡_, refl, sym, ap, _∙_, subst}
-use mathlib.Core.List.{List, [], _∷_, _++_, List·isSet}
+use mathlib.Core.Path.{refl}
+use mathlib.Core.List.{List, [], _∷_, List·isSet}
 use mathlib.Core.Logic.{∥∥₁-elim}
-use Prim.Native.Nat.{ℕ, _*_, _<_, _≤_}
+use Prim.Native.Nat.{ℕ, _<_}
 use native.Mathlib.Nat.{ℕ-set}
 use native.Mathlib.Bridge.{le-prop}
 use Rattle.std.specs.shelf.Lists.{All}

@@ -1,14 +1,14 @@
 -- A file reads back as what it was written from.
-use mathlib.Core.Path.{_≡_, refl, sym, ap, _∙_, subst}
+use mathlib.Core.Path.{_≡_, refl, sym, ap, _∙_}
 use mathlib.Core.List.{List, [], _∷_, _++_}
-use Prim.Native.Nat.{ℕ, zero, suc, _+_, _-_, _*_, _/_, _%_, _^_, _<_, _≤_}
+use Prim.Native.Nat.{ℕ, _+_, _-_, _*_, _≤_}
 use native.Mathlib.Nat.{suc-mul, add-mul}
 use native.Mathlib.Omega.{arith}
 use lib.ListN.{length, getD, take, drop, replicate}
 use Rattle.std.specs.shelf.Lists.{All}
 use Rattle.std.proofs.shelf.Lists.{append-assoc, take-at, drop-at, getD-at, drop-drop, length-append, length-replicate}
 use Rattle.keys.specs.Octets.{little, number}
-use Rattle.keys.proofs.Little.{number-little, number-below, little-number, length-little, bytes-little}
+use Rattle.keys.proofs.Little.{number-little}
 use Rattle.records.specs.Limits.{Storable, Stored}
 use Rattle.records.specs.Records.{Rec, Contents, payloadBytes}
 use Rattle.container_format.specs.Layout.{payloads, entry, entries, bodyAt, containerSize, containerBytes, file}

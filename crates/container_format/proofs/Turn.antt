@@ -1,14 +1,14 @@
 -- The steps of the loops that check entries.
-use mathlib.Core.Path.{_≡_, refl, sym, ap, _∙_, subst}
-use mathlib.Core.List.{List, [], _∷_, _++_}
-use Prim.Native.Nat.{ℕ, zero, suc, _+_, _-_, _*_, _<_, _≤_}
+use mathlib.Core.Path.{_≡_, sym, ap, _∙_, subst}
+use mathlib.Core.List.{List}
+use Prim.Native.Nat.{ℕ, suc, _+_, _-_, _*_, _<_, _≤_}
 use native.Mathlib.Nat.{suc-mul}
 use native.Mathlib.Omega.{arith}
-use lib.ListN.{length, getD, take, drop}
+use lib.ListN.{length, take, drop}
 use Rattle.std.proofs.shelf.Lists.{length-drop}
 use Rattle.container_format.specs.Layout.{bodyAt}
 use Rattle.container_format.specs.Reading.{lengthIn}
-use Rattle.container_format.specs.Checking.{EntryOk, EntriesOk, ContainerOk, Zeros, HeaderOk}
+use Rattle.container_format.specs.Checking.{EntryOk, EntriesOk, ContainerOk, HeaderOk}
 use Rattle.keys.specs.Octets.{number}
 use lib.Dec.{T}
 use mathlib.Core.Bool.{Bool}

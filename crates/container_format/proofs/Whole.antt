@@ -2,17 +2,17 @@
 use mathlib.Core.Path.{_≡_, refl, sym, ap, _∙_, subst}
 use mathlib.Core.Logic.{inl, inr}
 use mathlib.Core.List.{List, [], _∷_, _++_}
-use Prim.Native.Nat.{ℕ, zero, suc, _+_, _-_, _*_, _/_, _^_, _<_, _≤_}
+use Prim.Native.Nat.{ℕ, zero, suc, _+_, _-_, _*_, _/_, _<_, _≤_}
 use native.Mathlib.Omega.{arith}
 use native.Mathlib.Nat.{suc-mul, eq-of-mul-eq-mul-right, mul-div-left}
 use lib.ListN.{length, getD, take, drop, replicate}
 use Rattle.std.specs.shelf.Lists.{All}
-use Rattle.std.proofs.shelf.Lists.{append-assoc, append-nil, take-at, drop-at, getD-at, getD-drop, drop-drop, length-append, length-drop, length-take-le, take-append-drop}
+use Rattle.std.proofs.shelf.Lists.{append-assoc, append-nil, take-at, drop-at, getD-at, getD-drop, length-append, length-drop, length-take-le, take-append-drop}
 use Rattle.std.proofs.shelf.Elements.{all-take, all-drop}
-use Rattle.keys.specs.Octets.{little, number}
+use Rattle.keys.specs.Octets.{number}
 use Rattle.keys.proofs.Little.{number-little}
 use Rattle.keys.specs.Octets.{Bytes}
-use Rattle.records.specs.Limits.{Storable, Stored, Limits}
+use Rattle.records.specs.Limits.{Storable, Stored}
 use Rattle.records.specs.Records.{Rec, Contents}
 use Rattle.records.specs.Refusals.{untold, numberOf}
 use Rattle.records.specs.declared.refusal.Cause.the-variants.{Size, Layout}
@@ -21,7 +21,7 @@ use Rattle.std.specs.declared.result.Result.the-variants.{Err}
 use Rattle.container_format.specs.Layout.{payloads, entry, entries, bodyAt, containerSize, containerBytes, file}
 use Rattle.container_format.specs.Reading.{lengthIn, readFile}
 use Rattle.container_format.specs.Checking.{EntryOk, Zeros, EntriesOk, ContainerOk, ContainersOk, IsFile, NoFile, NoCount, Count, Checked, Intact}
-use Rattle.container_format.proofs.Round.{laid, laid-is, length-laid, drop-laid, from-w, length-front, front, drop-header, drop-body, number-count, number-used, length-container, reads-back, used-fits}
+use Rattle.container_format.proofs.Round.{laid, laid-is, length-laid, drop-laid, from-w, length-front, drop-header, drop-body, number-count, number-used, length-container, reads-back, used-fits}
 use Rattle.container_format.proofs.Accept.{accepts}
 use Rattle.container_format.proofs.Files.{length-file, length-readFile, intact-made}
 use Rattle.container_format.proofs.Turn.{less-one, row-more}

@@ -3,12 +3,11 @@ use mathlib.Core.Path.{_≡_, refl, sym, ap, _∙_}
 use mathlib.Core.Bool.{cond}
 use mathlib.Core.List.{List, [], _∷_, _++_}
 use mathlib.Core.Logic.{⊎-elim}
-use Prim.Native.Nat.{ℕ, zero, suc, _+_, _<_, _≤_}
+use Prim.Native.Nat.{ℕ, zero, suc, _+_, _<_}
 use native.Mathlib.Numerals.{add-one}
 use native.Mathlib.Omega.{arith}
-use lib.Dec.{ltb, leb}
-use lib.ListN.{length, getD, set, take, drop}
-use Rattle.std.proofs.shelf.Lists.{append-nil, append-assoc, set-getD, set-set, getD-set-same, take-more, take-all, length-set}
+use lib.ListN.{length, getD, set, take}
+use Rattle.std.proofs.shelf.Lists.{append-nil, append-assoc, set-getD, set-set, getD-set-same, take-more, length-set}
 use Rattle.std.proofs.shelf.Tests.{lt-ltb, le-ltb, le-leb, cases-lt}
 use Rattle.std.specs.Results.{isOk}
 use Rattle.std.specs.declared.result.Result.{Result}

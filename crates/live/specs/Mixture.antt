@@ -1,7 +1,6 @@
 -- A live set that is one of two has the meaning of the one it is.
 use mathlib.Core.Path.{_≡_}
-use mathlib.Core.Bool.{Bool, true, false}
-use Prim.Native.Nat.{ℕ}
+use mathlib.Core.Bool.{true, false}
 use Rattle.live.specs.Meaning.{Meaning}
 use Rattle.live.specs.declared.one_of.OneOf.{OneOf}
 use Rattle.live.specs.declared.one_of.OneOf.the-variants.{First, Second}

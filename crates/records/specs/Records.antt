@@ -1,6 +1,6 @@
 -- Records, what containers hold, and the first place of a fingerprint.
 use mathlib.Core.Bool.{cond}
-use mathlib.Core.List.{List, [], _∷_, _++_}
+use mathlib.Core.List.{List, [], _∷_}
 use Prim.Native.Nat.{ℕ, suc, _+_}
 use lib.ListN.{length}
 use Rattle.std.specs.declared.option.Option.{Option}

@@ -18,7 +18,7 @@ use Rattle.slots.specs.declared.probe.Probe.{Probe}
 use Rattle.slots.specs.declared.probe.Probe.the-variants.{Found, Free, Full}
 use Rattle.slots.specs.Walks.{keysOf, probed, reached, isFound, Within}
 use Rattle.slots.specs.Marks.{isMarked, unmarked, noted, markAt, marked, NoMarks, OneMark}
-use Rattle.slots.proofs.Walking.{HeldAt, held-at, probed-within}
+use Rattle.slots.proofs.Walking.{held-at, probed-within}
 use Rattle.slots.proofs.Cells.{keys-length, keys-mark}
 
 module _ {K : Type 0} where

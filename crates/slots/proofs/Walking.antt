@@ -3,13 +3,12 @@ use mathlib.Core.Path.{_≡_, refl, sym, ap, _∙_, subst}
 use mathlib.Core.Bool.{Bool, true, false, not, cond, _||_, _&&_}
 use mathlib.Core.List.{List, [], _∷_, _++_}
 use mathlib.Core.Logic.{_⊎_, inl, inr}
-use Prim.Native.Nat.{ℕ, zero, suc, _+_, _-_, _%_, _<_, _≤_}
-use native.Mathlib.Nat.{add-assoc, add-zero, le-of-lt, mod-lt}
-use native.Mathlib.Numerals.{add-one}
+use Prim.Native.Nat.{ℕ, zero, suc, _+_, _-_, _<_, _≤_}
+use native.Mathlib.Nat.{le-of-lt, mod-lt}
 use native.Mathlib.Omega.{arith}
 use lib.Dec.{eqb}
 use lib.ListN.{length, take, drop, set, getD, length-drop, length-take, take-append-drop}
-use lib.Seq.{drop-cons, take-set-lt}
+use lib.Seq.{take-set-lt}
 use Rattle.std.proofs.shelf.Tests.{cases-lt, eqb-true, and-parts, or-cases, or-right}
 use Rattle.keys.proofs.Little.{same-self, same-equal}
 use Rattle.std.proofs.shelf.Lists.{at-drop-more, at-drop-all, set-append-left, set-append-right, drop-set-lt, drop-set-add, take-set-le, length-set, getD-append-left, getD-append-right, getD-drop, getD-take, drop-all, take-all, nil-from-length}
@@ -17,7 +16,7 @@ use Rattle.std.specs.declared.option.Option.{Option}
 use Rattle.std.specs.declared.option.Option.the-variants.{Some, None}
 use Rattle.keys.specs.Octets.{sameBytes}
 use Rattle.slots.specs.Walks.{find, orElse, findFrom, homeOf, probed, isFound, isFull, Within, reached, looked}
-use Rattle.slots.specs.Tables.{slotIs, holds, filled, isOther, othersOnly, path, met, Sound, Emptied, placed, grown, Inserted, listed, MadeBy}
+use Rattle.slots.specs.Tables.{slotIs, holds, filled, isOther, othersOnly, path, met, Sound, Emptied, placed, Inserted, listed, MadeBy}
 use Rattle.slots.specs.declared.probe.Probe.{Probe}
 use Rattle.slots.specs.declared.probe.Probe.the-variants.{Found, Free, Full}
 

@@ -1,9 +1,7 @@
-use mathlib.Core.Path.{_≡_, ap}
+use mathlib.Core.Path.{ap}
 use Prim.Native.Nat.{_*_, _%_, _<_}
-use native.Mathlib.Nat.{mul-comm}
 use native.Mathlib.Omega.{arith}
-use Rattle.std.proofs.shelf.Bits.{div-below, mod-below}
-use lib.Dec.{lit<}
+use Rattle.std.proofs.shelf.Bits.{mod-below}
 use Rattle.bloom.specs.Bits.{place}
 use Rattle.bloom.proofs.bits.bit_place.Needs as need
 

@@ -1,5 +1,5 @@
 use borrow.Author.Needs.{needs}
-use Rattle.std.proofs.shelf.Lists.{places, length-replicate}
+use Rattle.std.proofs.shelf.Lists.{places}
 use Rattle.std.proofs.shelf.Parts.{overwrites}
 use Rattle.container_file.proofs.changes.zero.Needs as need
 

@@ -6,7 +6,6 @@ use native.Mathlib.Omega.{arith}
 use lib.ListN.{length, take, drop, replicate}
 use Rattle.std.proofs.shelf.Lists.{take-at}
 use Rattle.std.specs.Results.{isOk}
-use Rattle.std.specs.declared.result.Result.the-variants.{Ok}
 use Rattle.records.specs.Records.{Rec}
 use Rattle.devices.proofs.Holding.{answer-there, typed-at}
 use Rattle.devices.specs.Changes.{appendAnswer, appendAfter}

@@ -1,7 +1,6 @@
-use mathlib.Core.Path.{_≡_, sym, ap, _∙_, subst}
+use mathlib.Core.Path.{sym, ap, _∙_, subst}
 use mathlib.Core.List.{List}
 use lib.ListN.{length}
-use Rattle.std.specs.Of.Vec.{vec-items}
 use Rattle.slots.specs.declared.slot.Slot.{Slot}
 use Rattle.slots.specs.Walks.{keysOf}
 use Rattle.slots.specs.Tables.{Emptied}

@@ -1,4 +1,4 @@
-use mathlib.Core.Path.{_≡_, ap, _∙_}
+use mathlib.Core.Path.{ap, _∙_}
 use lib.ListN.{length}
 use Rattle.slots.specs.declared.slot.Slot.the-variants.{Empty}
 use Rattle.slots.specs.Walks.{keysOf}

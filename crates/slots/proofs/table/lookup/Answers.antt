@@ -1,5 +1,5 @@
 use mathlib.Core.Path.{_≡_, sym, ap, _∙_}
-use mathlib.Core.Bool.{Bool, true, false, _||_}
+use mathlib.Core.Bool.{true, false, _||_}
 use lib.Dec.{eqb}
 use lib.ListN.{length}
 use Rattle.slots.specs.Walks.{keysOf, isFound}

@@ -1,7 +1,6 @@
-use mathlib.Core.Path.{_≡_, sym, ap, _∙_, subst}
+use mathlib.Core.Path.{_≡_, ap, _∙_, subst}
 use Prim.Native.Nat.{ℕ}
 use native.Mathlib.Omega.{arith}
-use lib.ListN.{length, take, drop}
 use Rattle.slots.specs.Walks.{probed, keysOf, find, Within}
 use Rattle.slots.proofs.Walking.{part-one, part-two, probed-none, probed-within}
 use Rattle.slots.proofs.Cells.{keys-length, keys-drop, keys-take}

@@ -1,11 +1,11 @@
 use mathlib.Core.Path.{_≡_, sym, ap, _∙_}
-use mathlib.Core.List.{List, [], _∷_, _++_}
-use Prim.Native.Nat.{ℕ, _+_, _-_, _<_, _≤_}
+use mathlib.Core.List.{[], _∷_, _++_}
+use Prim.Native.Nat.{_+_, _-_, _<_, _≤_}
 use native.Mathlib.Omega.{arith}
 use lib.ListN.{length, getD, set, take, replicate}
 use Rattle.std.proofs.shelf.Tests.{ltb-true}
 use Rattle.keys.proofs.Reading.{front-written}
-use Rattle.records.specs.Records.{Rec, Contents, payloadBytes}
+use Rattle.records.specs.Records.{Rec, payloadBytes}
 use Rattle.devices.specs.Questions.{recordsOf}
 use Rattle.devices.proofs.Appends.{Takes, append-taken, after-taken}
 use Rattle.container_file.specs.Meaning.{readAs, contentsOf}

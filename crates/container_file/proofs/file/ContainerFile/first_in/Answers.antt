@@ -1,11 +1,7 @@
-use mathlib.Core.Path.{_≡_, sym, ap, _∙_}
-use mathlib.Core.Bool.{true, false}
-use Prim.Native.Nat.{ℕ}
+use mathlib.Core.Path.{sym, ap, _∙_}
 use native.Mathlib.Omega.{arith}
-use lib.ListN.{length, getD}
 use Rattle.std.specs.declared.option.Option.the-variants.{None}
 use Rattle.keys.specs.Octets.{sameBytes}
-use Rattle.records.specs.Records.{Rec, noRecord}
 use Rattle.records.specs.declared.refusal.Place.{Place}
 use Rattle.records.proofs.Places.{place-here, place-more, place-all}
 use Rattle.devices.specs.Questions.{recordsOf}

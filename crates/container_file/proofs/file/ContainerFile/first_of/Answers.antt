@@ -1,6 +1,5 @@
-use mathlib.Core.Path.{_≡_, sym, ap, _∙_}
+use mathlib.Core.Path.{sym, _∙_}
 use native.Mathlib.Omega.{arith}
-use lib.ListN.{length}
 use Rattle.records.proofs.Places.{from-here, from-more, from-all}
 use Rattle.container_file.specs.Meaning.{contentsOf}
 use Rattle.container_file.proofs.file.ContainerFile.first_of.Needs as need

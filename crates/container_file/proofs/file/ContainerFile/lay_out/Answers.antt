@@ -1,5 +1,5 @@
 use mathlib.Core.Path.{_≡_, sym, ap, _∙_, subst}
-use Prim.Native.Nat.{_-_, _*_}
+use Prim.Native.Nat.{_-_}
 use lib.ListN.{length, replicate}
 use Rattle.std.specs.Of.Vec.{vec-items}
 use Rattle.container_format.specs.Checking.{Intact, Count}

@@ -1,7 +1,6 @@
 use mathlib.Core.Path.{_≡_, ap, _∙_}
 use Prim.Native.Nat.{_%_, _^_, _<_}
 use native.Mathlib.Nat.{mod-eq-of-lt}
-use native.Mathlib.Omega.{arith}
 use Rattle.keys.specs.Octets.{little, number}
 use Rattle.keys.proofs.Reading.{fnv-path}
 use Rattle.keys.proofs.Little.{number-little, little-number, number-below}
