@@ -1,4 +1,8 @@
-// The container file's answers as a device.
+// The container file's answers as a device. A refused change writes no byte.
+ghost use mathlib.Core.Bool.{false};
+ghost use mathlib.Core.Path.{_≡_};
+ghost use Rattle.std.specs.Results.{isOk};
+ghost use Rattle.devices.specs.Changes.{appendAnswer, appendAfter, eraseAnswer, erased};
 ghost use Rattle.container_file.specs.Meaning.{contentsOf};
 use crate::changes::copy;
 use crate::file::ContainerFile;
@@ -70,7 +74,11 @@ pub impl<F: Fingerprint> Device for ContainerFile<F> as FileDevice {
         level: u8,
         fingerprint: F,
         payload: &[u8],
-    ) -> Result<(), Refusal> {
+    ) -> Result<(), Refusal>
+        ensures answer { λ r. ⌜ r ≡ appendAnswer (contentsOf (F·Key .width) (now (self .entry))) container (record { level = level; fingerprint = F·Key .bytes fingerprint; payload = now (payload .entry) }) ⌝ }
+        ensures after { λ _. ⌜ contentsOf (F·Key .width) (now (self .exit)) ≡ appendAfter (contentsOf (F·Key .width) (now (self .entry))) container (record { level = level; fingerprint = F·Key .bytes fingerprint; payload = now (payload .entry) }) ⌝ }
+        ensures untouched { λ r. ⌜ (isOk r ≡ false → now (self .exit) .bytes ≡ now (self .entry) .bytes) ⌝ }
+    {
         if !self.has(container) {
             return Err(Refusal::of(Cause::NoSuchPlace));
         }
@@ -86,7 +94,11 @@ pub impl<F: Fingerprint> Device for ContainerFile<F> as FileDevice {
         Ok(())
     }
 
-    fn erase(&mut self, container: usize) -> Result<(), Refusal> {
+    fn erase(&mut self, container: usize) -> Result<(), Refusal>
+        ensures answer { λ r. ⌜ r ≡ eraseAnswer (contentsOf (F·Key .width) (now (self .entry))) container ⌝ }
+        ensures after { λ _. ⌜ contentsOf (F·Key .width) (now (self .exit)) ≡ erased (contentsOf (F·Key .width) (now (self .entry))) container ⌝ }
+        ensures untouched { λ r. ⌜ (isOk r ≡ false → now (self .exit) .bytes ≡ now (self .entry) .bytes) ⌝ }
+    {
         if !self.has(container) {
             return Err(Refusal::of(Cause::NoSuchPlace));
         }

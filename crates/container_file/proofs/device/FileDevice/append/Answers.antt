@@ -3,7 +3,7 @@ use mathlib.Core.List.{[], _∷_, _++_}
 use Prim.Native.Nat.{_+_, _-_, _<_, _≤_}
 use native.Mathlib.Omega.{arith}
 use lib.ListN.{length, getD, set, take, replicate}
-use Rattle.std.proofs.shelf.Tests.{ltb-true}
+use Rattle.std.proofs.shelf.Tests.{ltb-true, true≢false}
 use Rattle.keys.proofs.Reading.{front-written}
 use Rattle.records.specs.Records.{Rec, payloadBytes}
 use Rattle.devices.specs.Questions.{recordsOf}
@@ -37,4 +37,5 @@ returns g c =
     record {
       answer = sym (append-taken cs (c .args .container) r h);
       after = after ∙ put ∙ ap (λ xs. set xs (c .args .container) (getD xs (c .args .container) [] ++ r ∷ [])) (sym before) ∙ sym (after-taken cs (c .args .container) r h);
+      untouched = λ no′. absurd (true≢false no′);
     }
