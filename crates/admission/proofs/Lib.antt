@@ -1,0 +1,4 @@
+pub mod Asking
+pub mod Searching
+pub mod Repeats
+pub mod Soundness

@@ -1,0 +1,5 @@
+pub mod Searching
+pub mod Round
+pub mod Rules
+pub mod Counts
+pub mod Outcomes

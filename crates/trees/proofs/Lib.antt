@@ -1,0 +1,16 @@
+pub mod Finding
+pub mod Pieces
+pub mod Survive
+pub mod Steps
+pub mod Ranks
+pub mod Cursors
+pub mod Places
+pub mod Wholeness
+pub mod Clears
+pub mod Losses
+pub mod Puts
+pub mod Marks
+pub mod Markings
+pub mod Visiting
+pub mod Masks
+pub mod Rooms

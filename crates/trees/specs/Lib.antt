@@ -1,0 +1,9 @@
+pub mod Holding
+pub mod Trees
+pub mod Cursor
+pub mod Reading
+pub mod Chains
+pub mod Marking
+pub mod Visits
+pub mod Clearing
+pub mod Placing
