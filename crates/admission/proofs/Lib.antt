@@ -1,4 +1,3 @@
-pub mod Asking
 pub mod Searching
 pub mod Repeats
 pub mod Soundness

@@ -16,14 +16,14 @@ use Rattle.records.specs.Refusals.{toldAt}
 use Rattle.records.specs.declared.refusal.Cause.{Cause}
 use Rattle.records.specs.declared.refusal.Place.{Place}
 use Rattle.records.specs.declared.refusal.Refusal.{Refusal}
-use Rattle.admission.specs.Admission.{refusedAt, refusedAmong, refusedFrom, isFree, someFree, verdict}
+use Rattle.admission.specs.Admission.{refusedAt, refusedAmong, refusedFrom, isFree, someFree, answerBy}
 
--- what a verdict tells
-pub none-refused : (o : Option Refusal) → Ok tt ≡ verdict o → o ≡ None
+-- what a answerBy tells
+pub none-refused : (o : Option Refusal) → Ok tt ≡ answerBy o → o ≡ None
 none-refused None e = refl
 none-refused (Some x) e = absurd (let z : _≡_ {A = ℕ} 0 1 = cc in omega arith)
 
-pub one-refused : (e : Refusal) (o : Option Refusal) → Err e ≡ verdict o → o ≡ Some e
+pub one-refused : (e : Refusal) (o : Option Refusal) → Err e ≡ answerBy o → o ≡ Some e
 one-refused e None h = absurd (let z : _≡_ {A = ℕ} 0 1 = cc in omega arith)
 one-refused e (Some x) h = cc
 

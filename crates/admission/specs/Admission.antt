@@ -57,9 +57,9 @@ abbrev pub noneFree : Contents → Option Refusal
 noneFree cs = cond (someFree cs) None (Some (untold NoneFree))
 
 -- an answer by its refusal, if there is one
-abbrev pub verdict : Option Refusal → Result (Unit {0}) Refusal
-verdict None = Ok tt
-verdict (Some e) = Err e
+abbrev pub answerBy : Option Refusal → Result (Unit {0}) Refusal
+answerBy None = Ok tt
+answerBy (Some e) = Err e
 
 -- the refusal of the first record that is wrong by itself
 abbrev pub firstFault : ℕ → (ℕ → List ℕ → List ℕ) → Contents → Option Refusal
@@ -71,7 +71,7 @@ firstRepeat cs = refusedFrom (repeatOf cs) 0 cs
 
 -- the answer to a device that holds cs: the first of these refusals, if there is one
 abbrev pub admissionAnswer : ℕ → (ℕ → List ℕ → List ℕ) → Contents → Result (Unit {0}) Refusal
-admissionAnswer w name cs = verdict (orOther (wrongSize cs) (orOther (firstFault w name cs) (orOther (firstRepeat cs) (noneFree cs))))
+admissionAnswer w name cs = answerBy (orOther (wrongSize cs) (orOther (firstFault w name cs) (orOther (firstRepeat cs) (noneFree cs))))
 
 -- what an admitted device holds: 2 to 32 containers of shaped and rightly named records, no two with equal fingerprints, and a free container
 pub record Admitted (w : ℕ) (name : ℕ → List ℕ → List ℕ) (cs : Contents) : Type 0 where

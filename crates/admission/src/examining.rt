@@ -5,7 +5,7 @@ ghost use lib.ListN.{length};
 ghost use Rattle.std.specs.declared.result.Result.the-variants.{Ok};
 ghost use Rattle.devices.specs.Questions.{recordsOf};
 ghost use Rattle.admission.specs.Causes.{causeOf};
-ghost use Rattle.admission.specs.Admission.{refusedAmong, refusedFrom, verdict, isFree, someFree, admissionAnswer, Admitted};
+ghost use Rattle.admission.specs.Admission.{refusedAmong, refusedFrom, answerBy, isFree, someFree, admissionAnswer, Admitted};
 use crate::causes::Examination;
 use devices::Device;
 use records::Cause;
@@ -19,7 +19,7 @@ fn examine_container<D: Device>(
     container: usize,
 ) -> Result<(), Refusal>
     requires { ⌜ container < length (D·Device .contents (now device)) ⌝ }
-    ensures { λ r. ⌜ r ≡ verdict (refusedAmong (causeOf (Kind·Key .width) (λ l p. Kind·Key .bytes (Kind·Fingerprint .naming l p)) (D·Device .contents (now (device .entry))) examination) container 0 (recordsOf (D·Device .contents (now (device .entry))) container)) ⌝ }
+    ensures { λ r. ⌜ r ≡ answerBy (refusedAmong (causeOf (Kind·Key .width) (λ l p. Kind·Key .bytes (Kind·Fingerprint .naming l p)) (D·Device .contents (now (device .entry))) examination) container 0 (recordsOf (D·Device .contents (now (device .entry))) container)) ⌝ }
 {
     let count = device.records(container)?;
     for index in 0..count {
@@ -33,7 +33,7 @@ fn examine_container<D: Device>(
 
 // Refuses the first record of all that the examination finds wrong.
 fn examine_records<D: Device>(device: &D, examination: Examination) -> Result<(), Refusal>
-    ensures { λ r. ⌜ r ≡ verdict (refusedFrom (causeOf (Kind·Key .width) (λ l p. Kind·Key .bytes (Kind·Fingerprint .naming l p)) (D·Device .contents (now (device .entry))) examination) 0 (D·Device .contents (now (device .entry)))) ⌝ }
+    ensures { λ r. ⌜ r ≡ answerBy (refusedFrom (causeOf (Kind·Key .width) (λ l p. Kind·Key .bytes (Kind·Fingerprint .naming l p)) (D·Device .contents (now (device .entry))) examination) 0 (D·Device .contents (now (device .entry)))) ⌝ }
 {
     let count = device.count();
     for container in 0..count {

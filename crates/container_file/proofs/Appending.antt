@@ -26,7 +26,7 @@ written-at a p m q ys lp lm =
 
 -- a write inside s, which stands between p and q
 pub written-in : (b a : ℕ) (p s q ys : List ℕ) → length p ≡ b → a + length ys ≤ length s → written (b + a) ys (p ++ (s ++ q)) ≡ p ++ (written a ys s ++ q)
-written-in b a p s q ys lp room =
+written-in b a p s q ys lp space =
     let m = take (length ys) (drop a s) in
     let r = drop (a + length ys) s in
     let x : s ≡ take a s ++ (m ++ r) = sym (take-append-drop a s) ∙ ap (λ y. take a s ++ y) (sym (take-append-drop (length ys) (drop a s)) ∙ ap (λ y. m ++ y) (drop-drop (length ys) a s)) in
@@ -64,7 +64,7 @@ entries-push off (x ∷ rs) r =
     let n : (off + length (x .payload)) + length (payloads rs) ≡ off + length (x .payload ++ payloads rs) = simp length-append (omega arith) in
     ap (λ y. entry off x ++ y) (entries-push (off + length (x .payload)) rs r) ∙ sym (append-assoc (entry off x) _ _) ∙ ap (λ m. (entry off x ++ entries (off + length (x .payload)) rs) ++ entry m r) n
 
-module _ (w : ℕ) (rs : List Rec) (r : Rec) (fits : Stored w rs) (new : Storable w r) (one : length rs < 63) (room : length (payloads rs) + length (r .payload) ≤ 7168) where
+module _ (w : ℕ) (rs : List Rec) (r : Rec) (fits : Stored w rs) (new : Storable w r) (one : length rs < 63) (space : length (payloads rs) + length (r .payload) ≤ 7168) where
   abbrev k : ℕ
   k = length rs
 
@@ -131,7 +131,7 @@ pub intact-append : (w n c a1 a2 : ℕ) (bs b1 b2 b3 pay ent head : List ℕ) (r
     pay ≡ r .payload → ent ≡ entry (length (payloads rs)) r → head ≡ little 2 (length rs + 1) ++ little 2 (length (payloads rs) + length (r .payload)) →
     b1 ≡ written a1 pay bs → b2 ≡ written a2 ent b1 → b3 ≡ written (c * containerSize w) head b2 →
     Intact w n b3 × (readFile w n b3 ≡ set (readFile w n bs) c (rs ++ r ∷ []))
-intact-append w n c a1 a2 bs b1 b2 b3 pay ent head r g h new one room e1 e2 ep ee eh w1 w2 w3 =
+intact-append w n c a1 a2 bs b1 b2 b3 pay ent head r g h new one space e1 e2 ep ee eh w1 w2 w3 =
     let rs = getD (readFile w n bs) c [] in
     let a = around w n c bs g h in
     let s = containerBytes w rs in
@@ -155,13 +155,13 @@ intact-append w n c a1 a2 bs b1 b2 b3 pay ent head r g h new one room e1 e2 ep e
     let x1 : b1 ≡ a .before ++ (s1 ++ a .behind) = w1 ∙ (λ i. written (e1 i) (ep i) (a .is i)) ∙ written-in base o1 (a .before) s (a .behind) (r .payload) (a .at) r1 in
     let x2 : b2 ≡ a .before ++ (s2 ++ a .behind) = w2 ∙ (λ i. written (e2 i) (ee i) (x1 i)) ∙ written-in base o2 (a .before) s1 (a .behind) E (a .at) r2 in
     let x3 : b3 ≡ a .before ++ (written 0 H s2 ++ a .behind) = w3 ∙ (λ i. written (sym z i) (eh i) (x2 i)) ∙ written-in base 0 (a .before) s2 (a .behind) H (a .at) (omega arith) in
-    let x4 : b3 ≡ a .before ++ (containerBytes w (rs ++ r ∷ []) ++ a .behind) = x3 ∙ ap (λ y. a .before ++ (y ++ a .behind)) (container-append w rs r (a .stored) new one room) in
+    let x4 : b3 ≡ a .before ++ (containerBytes w (rs ++ r ∷ []) ++ a .behind) = x3 ∙ ap (λ y. a .before ++ (y ++ a .behind)) (container-append w rs r (a .stored) new one space) in
     let P : List ℕ → Type 0 = λ y. Intact w n y × (readFile w n y ≡ set (readFile w n bs) c (rs ++ r ∷ [])) in
-    subst P (sym x4) (a .other (rs ++ r ∷ []) (stored-push w rs r (a .stored) new one room))
+    subst P (sym x4) (a .other (rs ++ r ∷ []) (stored-push w rs r (a .stored) new one space))
 
 -- two writes, one behind the other
 pub written-twice : (a b : ℕ) (xs ys bs : List ℕ) → b ≡ a + length xs → b + length ys ≤ length bs → written b ys (written a xs bs) ≡ written a (xs ++ ys) bs
-written-twice a b xs ys bs e room =
+written-twice a b xs ys bs e space =
     let m = take (length ys) (drop (a + length xs) bs) in
     let q = drop (a + length xs + length ys) bs in
     let d : drop (a + length xs) bs ≡ m ++ q = sym (take-append-drop (length ys) (drop (a + length xs) bs)) ∙ ap (λ y. m ++ y) (drop-drop (length ys) (a + length xs) bs) in

@@ -23,7 +23,7 @@ use Rattle.devices.specs.Questions.{Held, recordsOf, recordAt, ofRecord}
 
 -- what a key reads off the front, where there are bytes enough
 pub read-front : {K : Type 0} (key : List ℕ → K) (w at : ℕ) (bs rest : List ℕ) (r : Option K) → at + w ≤ length bs → rest ≡ drop at bs → r ≡ cond (leb w (length rest)) (Some (key (take w rest))) None → r ≡ Some (key (take w (drop at bs)))
-read-front key w at bs rest r room is e =
+read-front key w at bs rest r space is e =
     let l : w ≤ length (drop at bs) = simp length-drop (omega arith) in
     e ∙ ap (λ xs. cond (leb w (length xs)) (Some (key (take w xs))) None) is ∙ ap (λ b. cond b (Some (key (take w (drop at bs)))) None) (le-leb w (length (drop at bs)) l)
 

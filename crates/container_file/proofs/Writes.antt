@@ -11,7 +11,7 @@ use Rattle.container_format.specs.Layout.{payloads, entry, bodyAt, containerSiz
 use Rattle.container_format.specs.Reading.{readFile}
 use Rattle.container_format.specs.Checking.{Intact}
 use Rattle.container_format.specs.Writing.{written}
-use Rattle.container_format.proofs.Files.{intact-room, row-all}
+use Rattle.container_format.proofs.Files.{intact-space, row-all}
 use Rattle.container_file.proofs.Appending.{intact-append, written-twice, length-written}
 
 -- what the code knows before it writes a record
@@ -22,7 +22,7 @@ pub record Known (w n c base at count used level : ℕ) (bs name pay tail head :
   pub counted : count ≡ length (getD (readFile w n bs) c [])
   pub summed : used ≡ length (payloads (getD (readFile w n bs) c []))
   pub one : count < 63
-  pub room : used + length pay ≤ 7168
+  pub space : used + length pay ≤ 7168
   pub new : Storable w (record { level = level; fingerprint = name; payload = pay })
   pub placed : at ≡ base + (16 + count * (w + 8))
   pub tailed : tail ≡ level ∷ 0 ∷ (little 2 (length pay) ++ little 4 used)
@@ -42,8 +42,8 @@ intact-four w n c base at count used level bs name pay tail head h b1 b2 b3 b4 w
     let ek = h .counted in
     let eb = h .based in
     let k1 = h .one in
-    let room = h .room in
-    let gr = intact-room w n c bs (h .good) (h .here) in
+    let space = h .space in
+    let gr = intact-space w n c bs (h .good) (h .here) in
     let br : base + containerSize w ≤ length bs = (let P : ℕ → Type 0 = λ x. x + containerSize w ≤ length bs in subst P (sym eb) gr) in
     let rows = row-all count (w + 8) k1 in
     let pl = h .placed in
@@ -57,4 +57,4 @@ intact-four w n c base at count used level bs name pay tail head h b1 b2 b3 b4 w
     let a2 : at ≡ c * containerSize w + (16 + length rs * (w + 8)) = pl ∙ (λ i. eb i + (16 + ek i * (w + 8))) in
     let P : ℕ → Type 0 = λ x. x < 63 in
     let Q : ℕ → Type 0 = λ x. x + length pay ≤ 7168 in
-    intact-append w n c _ _ bs b1 b3 b4 pay (name ++ tail) head r (h .good) (h .here) new (subst P ek k1) (subst Q eu room) a1 a2 refl ent hd w1 two (w4 ∙ ap (λ x. written x head b3) eb)
+    intact-append w n c _ _ bs b1 b3 b4 pay (name ++ tail) head r (h .good) (h .here) new (subst P ek k1) (subst Q eu space) a1 a2 refl ent hd w1 two (w4 ∙ ap (λ x. written x head b3) eb)

@@ -32,7 +32,7 @@ module _ (w off : ℕ) (es bs : List ℕ) (long : w + 8 ≤ length es) (body : o
   r = readRecord w es bs
 
   pub length-payload : length (r .payload) ≡ lengthIn w es
-  length-payload = length-take-le (lengthIn w es) bs (let x = ok .room in omega arith)
+  length-payload = length-take-le (lengthIn w es) bs (let x = ok .space in omega arith)
 
   pub es-laid : es ≡ laid r off (drop (w + 8) es)
   es-laid =
@@ -104,7 +104,7 @@ accepting w used (suc k) j off es bs le lb eb bb ok =
     let rest = drop (w + 8) es in
     let more = drop (lengthIn w es) bs in
     let rs = readRecords w k rest more in
-    let room = e .room in
+    let space = e .space in
     let ld : length rest ≡ (k + j) * (w + 8) = length-drop (w + 8) es ∙ omega arith in
     let lm : (off + lengthIn w es) + length more ≡ 7168 = (let t = length-drop (lengthIn w es) bs in omega arith) in
     let t = accepting w used k j (off + lengthIn w es) rest more ld lm (all-drop (λ x. x < 256) (w + 8) es eb) (all-drop (λ x. x < 256) (lengthIn w es) bs bb) (ok .1) in

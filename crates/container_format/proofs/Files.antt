@@ -131,8 +131,8 @@ intact-header w n c bs g h =
     let d2 : drop (c * containerSize w + 2) bs ≡ drop 2 (containerBytes w rs ++ a .behind) = sym (drop-drop 2 (c * containerSize w) bs) ∙ ap (drop 2) d in
     (ap (λ y. number (take 2 y)) d ∙ ap number (front2 w rs (a .behind)) ∙ number-count w rs (a .stored), ap (λ y. number (take 2 y)) d2 ∙ ap number (next2 w rs (a .behind)) ∙ number-used w rs (a .stored))
 
-pub intact-room : (w n c : ℕ) (bs : List ℕ) → Intact w n bs → c < n → c * containerSize w + containerSize w ≤ length bs
-intact-room w n c bs g h =
+pub intact-space : (w n c : ℕ) (bs : List ℕ) → Intact w n bs → c < n → c * containerSize w + containerSize w ≤ length bs
+intact-space w n c bs g h =
     let a = suc-mul c (containerSize w) in
     let b : suc c * containerSize w ≤ n * containerSize w = mul-le-mul-right (containerSize w) (omega arith) in
     let l = g .long in

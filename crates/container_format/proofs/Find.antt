@@ -15,7 +15,7 @@ use Rattle.container_format.specs.Layout.{payloads, entry, entries, bodyAt, co
 use Rattle.container_format.specs.Reading.{readFile, EntryOf}
 use Rattle.container_format.specs.Checking.{Intact}
 use Rattle.container_format.proofs.Round.{laid, length-laid, from-w, length-entries, length-front, used-fits}
-use Rattle.container_format.proofs.Files.{around, container-form, intact-room, row-all}
+use Rattle.container_format.proofs.Files.{around, container-form, intact-space, row-all}
 
 entries-cut : (off : ℕ) (rs : List Rec) (i : ℕ) → i < length rs → entries off rs ≡ entries off (take i rs) ++ (entry (off + length (payloads (take i rs))) (getD rs i noRecord) ++ entries (off + length (payloads (take i rs)) + length (getD rs i noRecord .payload)) (drop (suc i) rs))
 entries-cut off [] i h = absurd (omega arith)
@@ -57,7 +57,7 @@ find w n c i bs g h hi =
     let b2 : bs ≡ V ++ (r .payload ++ (payloads (drop (suc i) rs) ++ (Y ++ a .behind))) = a .is ∙ ap (λ y. a .before ++ (y ++ a .behind)) (container-form w rs) ∙ ap (λ y. a .before ++ ((little 2 (length rs) ++ (little 2 (length (payloads rs)) ++ (replicate 12 0 ++ (entries 0 rs ++ (Z ++ (y ++ Y)))))) ++ a .behind)) bc ∙ simp append-assoc in
     let base = c * containerSize w in
     let start = base + (16 + i * (w + 8)) in
-    let size = intact-room w n c bs g h in
+    let size = intact-space w n c bs g h in
     let row = row-all i (w + 8) (let k = fits .fits .count in omega arith) in
     let z0 : start + 0 ≡ start = omega arith in
     let front0 : drop start bs ≡ laid r off rest = ap (λ k. drop k bs) (sym z0) ∙ at 0 in

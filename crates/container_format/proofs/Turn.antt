@@ -15,7 +15,7 @@ use mathlib.Core.Bool.{Bool}
 
 -- what the loop over entries keeps: i entries are passed
 pub record Held (w used count i off : ℕ) (rest body es bs : List ℕ) : Type 0 where
-  pub room : off + length body ≡ 7168
+  pub space : off + length body ≡ 7168
   pub long : length rest ≡ (63 - i) * (w + 8)
   pub back : EntriesOk w used (count - i) off rest body → EntriesOk w used count 0 es bs
   pub on : EntriesOk w used count 0 es bs → EntriesOk w used (count - i) off rest body
@@ -35,14 +35,14 @@ module _ (w used count i off : ℕ) (rest body es bs : List ℕ) (h : Held w use
   held-more n rest′ body′ ok is at-rest at-body =
       let a = h .long in
       let b = row-more 63 i (w + 8) (omega arith) in
-      let r = h .room in
-      let k = ok .room in
+      let r = h .space in
+      let k = ok .space in
       let P : ℕ → Type 0 = λ m. EntriesOk w used m off rest body in
       let e = less-one count i turn in
       let q : body′ ≡ drop (lengthIn w rest) body = at-body ∙ ap (λ m. drop m body) is in
       let same : EntriesOk w used (count - (i + 1)) (off + n) rest′ body′ ≡ EntriesOk w used (count - (i + 1)) (off + lengthIn w rest) (drop (w + 8) rest) (drop (lengthIn w rest) body) = λ z. EntriesOk w used (count - (i + 1)) (off + is z) (at-rest z) (q z) in
       record {
-        room = (let t = ap length q ∙ length-drop (lengthIn w rest) body in omega arith);
+        space = (let t = ap length q ∙ length-drop (lengthIn w rest) body in omega arith);
         long = ap length at-rest ∙ length-drop (w + 8) rest ∙ omega arith;
         back = λ t. h .back (subst P (sym e) (ok, subst (λ X. X) same t));
         on = λ t. subst (λ X. X) (sym same) ((subst P e (h .on t)) .1);

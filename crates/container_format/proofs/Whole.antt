@@ -31,7 +31,7 @@ zeros-replicate zero = tt
 zeros-replicate (suc n) = (refl, zeros-replicate n)
 
 entry-ok : (w : ℕ) (r : Rec) (off : ℕ) (rest : List ℕ) → Storable w r → off + length (r .payload) ≤ 7168 → EntryOk w off (laid r off rest)
-entry-ok w r off rest f room =
+entry-ok w r off rest f space =
     let es = laid r off rest in
     let n : lengthIn w es ≡ length (r .payload) = length-laid w r off rest f in
     let lv : getD es w 0 ≡ r .level = getD-at (r .fingerprint) (r .level) _ 0 w (f .typed .wide) in
@@ -39,7 +39,7 @@ entry-ok w r off rest f room =
     let a = f .level in
     let b = f .some in
     let c = f .few in
-    record { level = omega arith; gap = z; some = omega arith; few = omega arith; offset = ap (λ y. number (take 4 y)) (from-w w r off rest f 4) ∙ number-little 4 off (omega (arith, room)); room = omega arith }
+    record { level = omega arith; gap = z; some = omega arith; few = omega arith; offset = ap (λ y. number (take 4 y)) (from-w w r off rest f 4) ∙ number-little 4 off (omega (arith, space)); space = omega arith }
 
 entries-ok : (w used off : ℕ) (rs : List Rec) (z y : List ℕ) → All (Storable w) rs → off + length (payloads rs) ≡ used → used ≤ 7168 → Zeros z → Zeros y → EntriesOk w used (length rs) off (entries off rs ++ z) (payloads rs ++ y)
 entries-ok w used off [] z y h sum few zz zy = (omega arith, zz, zy)
@@ -151,8 +151,8 @@ pub record Passed (w n i : ℕ) (rest bs : List ℕ) : Type 0 where
   pub on : ContainersOk w n bs → ContainersOk w (n - i) rest
 
 module _ (w n i : ℕ) (rest bs : List ℕ) (h : Passed w n i rest bs) (turn : i < n) where
-  pub container-room : containerSize w ≤ length rest
-  container-room = let a = h .long in let b = row-more n i (containerSize w) turn in omega (arith, a ∙ b)
+  pub container-space : containerSize w ≤ length rest
+  container-space = let a = h .long in let b = row-more n i (containerSize w) turn in omega (arith, a ∙ b)
 
   abbrev S : ℕ
   S = containerSize w

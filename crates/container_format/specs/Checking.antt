@@ -52,7 +52,7 @@ pub record EntryOk (w off : ℕ) (es : List ℕ) : Type 0 where
   pub some : 1 ≤ lengthIn w es
   pub few : lengthIn w es ≤ 1280
   pub offset : number (take 4 (drop (w + 4) es)) ≡ off
-  pub room : off + lengthIn w es ≤ 7168
+  pub space : off + lengthIn w es ≤ 7168
 
 -- k entries are in order, the first payload lying at `off`; behind them entries and body are zero, and `used` bytes are in use
 abbrev pub EntriesOk : ℕ → ℕ → ℕ → ℕ → List ℕ → List ℕ → Type 0

@@ -8,17 +8,14 @@ use native.Mathlib.Numerals.{add-one}
 use native.Mathlib.Omega.{arith}
 use lib.ListN.{length, getD, set, take}
 use Rattle.std.proofs.shelf.Lists.{append-nil, append-assoc, set-getD, set-set, getD-set-same, take-more, length-set}
-use Rattle.std.proofs.shelf.Tests.{lt-ltb, le-ltb, le-leb, cases-lt}
+use Rattle.std.proofs.shelf.Tests.{le-ltb, cases-lt}
 use Rattle.std.specs.Results.{isOk}
-use Rattle.std.specs.declared.result.Result.{Result}
 use Rattle.std.specs.declared.result.Result.the-variants.{Ok, Err}
 use Rattle.records.specs.Records.{Rec, Contents, noRecord}
 use Rattle.records.specs.Refusals.{untold}
-use Rattle.records.specs.declared.refusal.Cause.the-variants.{NoSuchPlace, TooShort, Shape, ContainerFull}
-use Rattle.records.specs.declared.refusal.Place.{Place}
-use Rattle.devices.proofs.Holding.{small-payload}
+use Rattle.records.specs.declared.refusal.Cause.the-variants.{NoSuchPlace, Shape, ContainerFull}
 use Rattle.devices.specs.Changes.{storable, takes, appendAnswer, appended, appendAfter}
-use Rattle.devices.specs.Questions.{Held, recordsOf, recordAt, ofContainer, payloadAnswer, fitting}
+use Rattle.devices.specs.Questions.{recordsOf}
 use Rattle.copying.specs.Copies.{withMore, stacked}
 
 -- nothing yet
@@ -32,10 +29,6 @@ more-one ds c i rs here left =
     set-set ds c x (recordsOf (set ds c x) c ++ getD rs i noRecord ∷ [])
     ∙ ap (λ y. set ds c (y ++ getD rs i noRecord ∷ [])) (getD-set-same ds c x [] here)
     ∙ ap (set ds c) (append-assoc (recordsOf ds c) (take i rs) (getD rs i noRecord ∷ []) ∙ ap (λ y. recordsOf ds c ++ y) (sym (take-more rs i noRecord left)))
-
--- an answer is one
-pub same-ok : {X E : Type 0} (a b : X) (r : Result X E) → Ok a ≡ r → r ≡ Ok b → a ≡ b
-same-ok a b r p q = cc
 
 -- what is appended to is there
 append-here : (cs : Contents) (c : ℕ) (r : Rec) → Ok tt ≡ appendAnswer cs c r → c < length cs
@@ -67,14 +60,3 @@ stacked-one ds cs k h = go ds cs k h ∙ ap (λ n. stacked ds (take n cs)) (sym 
     go (d ∷ ds) [] k h = absurd (omega arith)
     go (d ∷ ds) (c ∷ cs) zero h = ap (λ xs. (d ++ c) ∷ xs) (sym (stacked-none ds))
     go (d ∷ ds) (c ∷ cs) (suc k) h = ap (λ xs. (d ++ c) ∷ xs) (go ds cs k (omega arith))
-
--- a device's own payload fits the buffer
-pub payload-told : (w : ℕ) (cs : Contents) (p : Place) → Held w cs → p .index < length (recordsOf cs (p .container)) → payloadAnswer cs p 7168 ≡ Ok (length (recordAt cs p .payload))
-payload-told w cs p h inside =
-    let n = length (recordAt cs p .payload) in
-    (λ i. cond (lt-ltb (p .index) (length (recordsOf cs (p .container))) inside i) (fitting n 7168) (Err (untold NoSuchPlace)))
-    ∙ ap (λ b. cond b (Ok n) (Err (untold TooShort))) (le-leb n 7168 (small-payload w cs p h inside))
-
--- how many records a container that is there has
-pub records-told : (cs : Contents) (c : ℕ) → c < length cs → ofContainer length cs c ≡ Ok (length (recordsOf cs c))
-records-told cs c h = ap (λ b. cond b (Ok (length (recordsOf cs c))) (Err (untold NoSuchPlace))) (lt-ltb c (length cs) h)

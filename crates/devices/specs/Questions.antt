@@ -36,12 +36,12 @@ ofContainer f cs c = cond (ltb c (length cs)) (Ok (f (recordsOf cs c))) (Err (un
 abbrev pub ofRecord : {X : Type 0} → (Rec → X) → Contents → Place → Result X Refusal
 ofRecord f cs p = cond (ltb (p .index) (length (recordsOf cs (p .container)))) (Ok (f (recordAt cs p))) (Err (untold NoSuchPlace))
 
--- the payload's length, where a buffer of `room` bytes can take the payload
+-- the payload's length, where a buffer of `space` bytes can take the payload
 abbrev pub fitting : ℕ → ℕ → Result ℕ Refusal
-fitting n room = cond (leb n room) (Ok n) (Err (untold TooShort))
+fitting n space = cond (leb n space) (Ok n) (Err (untold TooShort))
 
 abbrev pub payloadAnswer : Contents → Place → ℕ → Result ℕ Refusal
-payloadAnswer cs p room = cond (ltb (p .index) (length (recordsOf cs (p .container)))) (fitting (length (recordAt cs p .payload)) room) (Err (untold NoSuchPlace))
+payloadAnswer cs p space = cond (ltb (p .index) (length (recordsOf cs (p .container)))) (fitting (length (recordAt cs p .payload)) space) (Err (untold NoSuchPlace))
 
 -- the payload fills the front of the buffer, unless it is refused; the rest stays
 abbrev pub payloadFilled : Contents → Place → List ℕ → List ℕ

@@ -71,9 +71,9 @@ module _ {K : Type 0} (b : K → List ℕ) where
   teach-more n ks i k true s t lt at e own h =
       let some = or-parts (s .intake .sealed) (eqb (s .intake .count) (exactMeaning b .capacity s)) (not-from _ (e .answer)) in
       let differs = eqb-false (s .intake .count) (exactMeaning b .capacity s) (some .1) in
-      let room : i < n = omega (arith, h .count, h .capacity, differs) in
+      let space : i < n = omega (arith, h .count, h .capacity, differs) in
       let lt′ : i < length (take n ks) = omega (arith, length-take n ks) in
-      let at′ : k ≡ getD (take n ks) i k = at ∙ sym (getD-take n ks i k room) in
+      let at′ : k ≡ getD (take n ks) i k = at ∙ sym (getD-take n ks i k space) in
       record {
         capacity = e .capacity ∙ h .capacity;
         sealed = e .sealed refl;

@@ -8,7 +8,7 @@ use Rattle.slots.specs.Tables.{Sound, listed}
 use Rattle.exact.specs.Exact.{heldBy, exactMeaning}
 use Rattle.exact.specs.declared.table.ExactTable.{ExactTable}
 
--- started, and the keys learned in order as far as there was room: it covers exactly these
+-- started, and the keys learned in order as far as there was space: it covers exactly these
 pub record Taught {K : Type 0} (bytes : K → List ℕ) (s : ExactTable K) (keys : List K) (t : ExactTable K) : Type 0 where
   pub capacity : exactMeaning bytes .capacity t ≡ exactMeaning bytes .capacity s
   pub sealed : t .intake .sealed ≡ false

@@ -13,7 +13,7 @@ use keys::Key;
 use live::LiveSet;
 use slots::Slot;
 
-// Starts the set, and has it learn the keys in order, as far as there is room.
+// Starts the set, and has it learn the keys in order, as far as there is space.
 pub fn learn_all<K: Key>(set: &mut ExactTable<K>, keys: &[K])
     ensures { λ _. ⌜ Taught bytes (now (set .entry)) (now (keys .entry)) (now (set .exit)) ⌝ }
 {

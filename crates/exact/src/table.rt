@@ -14,5 +14,5 @@ pub struct ExactTable<K: Key> {
     pub(crate) slots: Vec<Slot<K>>,
     pub(crate) intake: Intake,
     // No more keys are held than were learned, and there are as many slots as it can learn keys.
-    ghost room: { (filled (keysOf (vec-items slots)) ≤ intake .count) × (intake .capacity ≡ length (vec-items slots)) },
+    ghost space: { (filled (keysOf (vec-items slots)) ≤ intake .count) × (intake .capacity ≡ length (vec-items slots)) },
 }

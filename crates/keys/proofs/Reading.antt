@@ -65,5 +65,5 @@ fnv-read xs f h e = ap Some (fnv-numbered f (number (take 8 xs)) (e ∙ sym (eig
 
 -- a key that fits stands at the front of what it was written to
 pub front-written : (w : ℕ) (fits : Bool) (bytes to after : List ℕ) → length bytes ≡ w → w ≤ length to → fits ≡ leb w (length to) → after ≡ cond fits (bytes ++ drop w to) to → take w after ≡ bytes
-front-written w fits bytes to after long room e a =
-    ap (take w) (a ∙ ap (λ b. cond b (bytes ++ drop w to) to) (e ∙ le-leb w (length to) room)) ∙ take-at bytes (drop w to) w long
+front-written w fits bytes to after long space e a =
+    ap (take w) (a ∙ ap (λ b. cond b (bytes ++ drop w to) to) (e ∙ le-leb w (length to) space)) ∙ take-at bytes (drop w to) w long

@@ -10,7 +10,7 @@ pub struct Intake {
     count: usize,
     capacity: usize,
     sealed: bool,
-    ghost room: { count ≤ capacity },
+    ghost space: { count ≤ capacity },
 }
 
 impl Intake {

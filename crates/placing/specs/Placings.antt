@@ -13,8 +13,8 @@ use Rattle.placing.specs.declared.choosing.Choice.{Choice}
 use Rattle.placing.specs.declared.choosing.Choice.the-variants.{Stays, Opens, NoPlace}
 
 -- whether a container is there and takes a record of len payload bytes
-abbrev pub hasRoom : Contents → ℕ → ℕ → Bool
-hasRoom cs c len = ltb c (length cs) && (ltb (length (recordsOf cs c)) 63 && leb (payloadBytes (recordsOf cs c) + len) 7168)
+abbrev pub hasSpace : Contents → ℕ → ℕ → Bool
+hasSpace cs c len = ltb c (length cs) && (ltb (length (recordsOf cs c)) 63 && leb (payloadBytes (recordsOf cs c) + len) 7168)
 
 -- a container that is found is opened
 abbrev pub toOpen : Option ℕ → Choice
@@ -28,22 +28,22 @@ opening cs last spare = cond (leb (freeCount cs) spare) NoPlace (toOpen (nextFre
 -- the open container if that takes the record, else the next free one
 abbrev pub chosen : Contents → Option ℕ → ℕ → ℕ → ℕ → Choice
 chosen cs None last spare len = opening cs last spare
-chosen cs (Some c) last spare len = cond (hasRoom cs c len) (Stays c) (opening cs last spare)
+chosen cs (Some c) last spare len = cond (hasSpace cs c len) (Stays c) (opening cs last spare)
 
 -- a container that is there and takes a record of len payload bytes
-pub record Room (cs : Contents) (c len : ℕ) : Type 0 where
+pub record Space (cs : Contents) (c len : ℕ) : Type 0 where
   pub here : c < length cs
   pub count : length (recordsOf cs c) < 63
   pub bytes : payloadBytes (recordsOf cs c) + len ≤ 7168
 
 -- the open container, if any, does not take it
 abbrev pub Full : Contents → Option ℕ → ℕ → Type 0
-Full cs o len = (c : ℕ) → o ≡ Some c → Room cs c len → ⊥
+Full cs o len = (c : ℕ) → o ≡ Some c → Space cs c len → ⊥
 
 -- c is the open container, and takes the record
 pub record Stayed (cs : Contents) (o : Option ℕ) (len c : ℕ) : Type 0 where
   pub opened : o ≡ Some c
-  pub room : Room cs c len
+  pub space : Space cs c len
 
 -- c is opened: more than spare are free, and c is the first of them on the way round
 pub record Opened (cs : Contents) (o : Option ℕ) (last spare len c : ℕ) : Type 0 where

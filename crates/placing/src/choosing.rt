@@ -4,7 +4,7 @@ ghost use mathlib.Core.Path.{_≡_};
 ghost use Prim.Native.Nat.{ℕ, _+_};
 ghost use lib.Dec.{ltb, leb};
 ghost use Rattle.std.specs.declared.option.Option.the-variants.{Some};
-ghost use Rattle.placing.specs.Placings.{hasRoom, opening, chosen, Room, Rule};
+ghost use Rattle.placing.specs.Placings.{hasSpace, opening, chosen, Space, Rule};
 use crate::free::free_count;
 use crate::free::next_free;
 use devices::Device;
@@ -25,8 +25,8 @@ fn joins(records: usize, bytes: usize, len: usize) -> bool
 }
 
 // Whether a container is there and takes a record of `len` payload bytes.
-fn has_room<D: Device>(device: &D, container: usize, len: usize) -> bool
-    ensures { λ r. ⌜ r ≡ hasRoom (D·Device .contents (now (device .entry))) container len ⌝ }
+fn has_space<D: Device>(device: &D, container: usize, len: usize) -> bool
+    ensures { λ r. ⌜ r ≡ hasSpace (D·Device .contents (now (device .entry))) container len ⌝ }
 {
     let Ok(records) = device.records(container) else {
         return false;
@@ -55,7 +55,7 @@ fn pick<D: Device>(device: &D, open: Option<usize>, last: usize, spare: usize, l
     ensures { λ r. ⌜ r ≡ chosen (D·Device .contents (now (device .entry))) «open» last spare len ⌝ }
 {
     if let Some(container) = open {
-        if has_room(device, container, len) {
+        if has_space(device, container, len) {
             return Choice::Stays(container);
         }
     }
@@ -72,7 +72,7 @@ pub fn choose<D: Device>(
 ) -> Choice
     ensures answer { λ r. ⌜ r ≡ chosen (D·Device .contents (now (device .entry))) «open» last spare len ⌝ }
     ensures rule { λ r. ⌜ Rule (D·Device .contents (now (device .entry))) «open» last spare len r ⌝ }
-    ensures stays { λ r. ⌜ ((c : ℕ) → «open» ≡ Some c → Room (D·Device .contents (now (device .entry))) c len → r ≡ Choice.Stays c) ⌝ }
+    ensures stays { λ r. ⌜ ((c : ℕ) → «open» ≡ Some c → Space (D·Device .contents (now (device .entry))) c len → r ≡ Choice.Stays c) ⌝ }
 {
     pick(device, open, last, spare, len)
 }

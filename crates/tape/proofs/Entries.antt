@@ -114,7 +114,7 @@ logged w k es rest bs n h e =
     let d : drop (logSize w (logOf w k bs)) bs ≡ rest = (λ i. drop (z i) (e i)) ∙ drop-log w es rest h in (
       same,
       record {
-        room = omega arith;
+        space = omega arith;
         whole = (λ i. logBefore (same i) (d i)) ∙ sym e;
         each = subst (All (Sound w)) (sym same) h;
       },
@@ -134,7 +134,7 @@ pub entry-written : (w a : ℕ) (e : Entry) (to t x z : List ℕ) (fits : Bool) 
     let u = putMid 4 (length t - 4) t x in
     z ≡ e .stored .payload ++ drop (length (e .stored .payload)) (take (length u - a) (drop a u)) →
     putMid a (length u - a) u z ≡ laidBefore e (drop (entrySize w e) to)
-entry-written w a e to t x z fits wide place room head fit wrote copied =
+entry-written w a e to t x z fits wide place space head fit wrote copied =
     let fp = e .stored .fingerprint in
     let pay = e .stored .payload in
     let R : List ℕ = drop 4 to in
@@ -158,7 +158,7 @@ entry-written w a e to t x z fits wide place room head fit wrote copied =
 -- a key that is read off some bytes from a place on
 pub key-read : {K : Type 0} (key : List ℕ → K) (w at : ℕ) (bs : List ℕ) (k : K) → at + w ≤ length bs → let from = take (length bs - at) (drop at bs) in
     Some k ≡ cond (leb w (length from)) (Some (key (take w from))) None → k ≡ key (take w (drop at bs))
-key-read key w at bs k room told =
+key-read key w at bs k space told =
     let from : List ℕ = take (length bs - at) (drop at bs) in
     let whole : from ≡ drop at bs = take-rest bs at in
     let l : length from ≡ length bs - at = ap length whole ∙ length-drop at bs in

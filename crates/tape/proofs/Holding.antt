@@ -40,7 +40,7 @@ prop-sound w e a b i = record { typed = prop-typed w (e .stored) (a .typed) (b .
 
 prop-logged : (w k : ℕ) (bs : List ℕ) → IsProp (Logged w k bs)
 prop-logged w k bs a b i = record {
-  room = le-prop (a .room) (b .room) i;
+  space = le-prop (a .space) (b .space) i;
   whole = List·isSet ℕ-set _ _ (a .whole) (b .whole) i;
   each = prop-all (Sound w) (prop-sound w) _ (a .each) (b .each) i;
 }
@@ -119,9 +119,9 @@ module _ (w n k used : ℕ) (bs : List ℕ) (g : Good w n k used bs) (e : Entry)
           fits = subst (All Fits) (sym (gathered-push n e es)) (all-set Fits (gathered n es) (e .container) (rs ++ e .stored ∷ []) fit (g .fits));
         }
 
-    -- the tape never lacks room for what a container takes
-    pub room-more : used + entrySize w e ≤ length bs
-    room-more =
+    -- the tape never lacks space for what a container takes
+    pub space-more : used + entrySize w e ≤ length bs
+    space-more =
         let f = log-fits w n (es ++ e ∷ []) (limited-more .within) (limited-more .fits) in
         let s = size-join w es (e ∷ []) in
         let u = g .front in

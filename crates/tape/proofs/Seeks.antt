@@ -13,7 +13,7 @@ use Rattle.records.specs.Records.{Rec, noRecord, placeAmong}
 use Rattle.records.specs.declared.refusal.Place.{Place}
 use Rattle.tape.specs.Log.{Entry, Logged, Found, lengthAt, logOf, recordsIn}
 use Rattle.tape.proofs.Walks as walk
-use Rattle.tape.proofs.Walks.{On, room, on-start, on-more, records-here, records-not, entry-is}
+use Rattle.tape.proofs.Walks.{On, space, on-start, on-more, records-here, records-not, entry-is}
 
 -- i entries are passed, `seen` of the container c among them: not yet more than the index
 pub record Sought (w c index i at seen : ℕ) (bs : List ℕ) (es : List Entry) : Type 0 where
@@ -41,7 +41,7 @@ module _ (w c index i at seen : ℕ) (bs : List ℕ) (es : List Entry) (h : Soug
       let g : getD rs index noRecord ≡ _ = ap (λ k. getD rs k noRecord) (omega arith) ∙ sym (getD-drop index rs 0 noRecord) ∙ ap (λ x. getD x 0 noRecord) r in
       record {
         here = omega arith;
-        room = room w i at bs es (h .on) turn;
+        space = space w i at bs es (h .on) turn;
         is = ap (λ x. x .stored) (entry-is w i at bs es (h .on) turn) ∙ sym g;
       }
 

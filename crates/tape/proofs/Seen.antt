@@ -26,7 +26,7 @@ use Rattle.tape.specs.Log.{Entry, Sound, Logged, Found, laidBefore, entrySize,
 use Rattle.tape.specs.Meaning.{heldAt}
 use Rattle.tape.specs.Sizes.{Good, countable}
 use Rattle.tape.proofs.Gathering.{length-gathered, getD-gathered}
-use Rattle.tape.proofs.Holding.{good-from, good-held, room-more, good-more, good-without}
+use Rattle.tape.proofs.Holding.{good-from, good-held, space-more, good-more, good-without}
 use Rattle.tape.proofs.Entries.{count-size, length-logOf, past-three}
 use Rattle.tape.proofs.Sweeps.{Left}
 
@@ -121,11 +121,11 @@ module _ (w v n k used : ℕ) (bs : List ℕ) (good : ∥ Good v n k used bs ∥
   pub push-small : e .container < 256
   push-small = let a = at .inside in let b = g .few in omega arith
 
-  pub push-room : used + entrySize w e ≤ length bs
-  push-room = let s = at .same in let r = room-more v n k used bs g e (at .inside) sound-v one-v all-v in omega arith
+  pub push-space : used + entrySize w e ≤ length bs
+  push-space = let s = at .same in let r = space-more v n k used bs g e (at .inside) sound-v one-v all-v in omega arith
 
   pub push-few : k ≤ length bs
-  push-few = let a = count-size v es in let b = length-logOf v k bs in let c = g .logged .room in omega arith
+  push-few = let a = count-size v es in let b = length-logOf v k bs in let c = g .logged .space in omega arith
 
   -- the front of the tape before and after the write
   pub pushed : (used′ : ℕ) (was last bs′ : List ℕ) → used′ ≡ used + entrySize w e → was ≡ bs → length last ≡ length was → bs′ ≡ last → last ≡ take used was ++ laidBefore e (drop (entrySize w e) (drop used was)) →
@@ -156,7 +156,7 @@ module _ (w i at : ℕ) (bs was : List ℕ) (rs : List Rec) (found : Found w bs 
   pub found-length : lengthAt (drop at was) ≡ length (getD rs i noRecord .payload)
   found-length =
       let l : length (drop w (drop 4 (drop at bs))) ≡ length bs - at - 4 - w = length-drop w (drop 4 (drop at bs)) ∙ ap (λ n. n - w) (length-drop 4 (drop at bs) ∙ ap (λ n. n - 4) (length-drop at bs)) in
-      ap (λ x. lengthAt (drop at x)) same ∙ sym (length-take-le (lengthAt (drop at bs)) (drop w (drop 4 (drop at bs))) (let r = found .room in omega arith)) ∙ ap (λ r. length (r .payload)) (found .is)
+      ap (λ x. lengthAt (drop at x)) same ∙ sym (length-take-le (lengthAt (drop at bs)) (drop w (drop 4 (drop at bs))) (let r = found .space in omega arith)) ∙ ap (λ r. length (r .payload)) (found .is)
 
   pub found-payload : (n from : ℕ) → n ≡ lengthAt (drop at bs) → from ≡ at + 4 + w → take n (drop from was) ≡ getD rs i noRecord .payload
   found-payload n from nn ff = (λ i. take (nn i) (drop (ff i) (same i))) ∙ ap (take (lengthAt (drop at bs))) (sym (past-three at 4 w (at + 4 + w) bs refl)) ∙ ap (λ r. r .payload) (found .is)

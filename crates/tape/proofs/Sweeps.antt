@@ -14,7 +14,7 @@ use Rattle.std.proofs.shelf.Tests.{eq-eqb, ne-eqb}
 use Rattle.tape.specs.Log.{Entry, noEntry, Logged, logBefore, entrySize, logSize, lengthAt, logOf, without}
 use Rattle.tape.proofs.Entries.{log-append, log-join, size-join, take-log}
 use Rattle.tape.proofs.Walks as walk
-use Rattle.tape.proofs.Walks.{On, on-start, on-more, container-is, size-is, room, front-is, sound}
+use Rattle.tape.proofs.Walks.{On, on-start, on-more, container-is, size-is, space, front-is, sound}
 
 -- i entries are passed; those of them that stay stand at the front
 pub record Swept (w c i at count used : ℕ) (bs : List ℕ) (es : List Entry) : Type 0 where
@@ -59,7 +59,7 @@ module _ (w c i at count used : ℕ) (bs : List ℕ) (es : List Entry) (h : Swep
       let same : stay (i + 1) ≡ stay i ++ e ∷ [] = stay-more ∙ ap (λ b. stay i ++ cond (not b) (e ∷ []) []) (ne-eqb (e .container) c (λ q. there (container-is w i at bs es (h .on) turn _ refl ∙ q))) in
       let f = h .few in
       let b = h .behind in
-      let r = room w i at bs es (h .on) turn in
+      let r = space w i at bs es (h .on) turn in
       let n : at′ - at ≡ entrySize w e = (let k = size-is w i at bs es (h .on) turn in omega arith) in
       let n′ : at′ - at ≡ logSize w (e ∷ []) = omega arith in
       let l = length-drop at bs in

@@ -56,8 +56,8 @@ module _ (w i at : ℕ) (bs : List ℕ) (es : List Entry) (on : On w bs at (drop
   pub size-is : w + 4 + lengthAt (drop at bs) ≡ entrySize w entry
   size-is = ap (λ n. w + 4 + n) length-is
 
-  pub room : at + (w + 4 + lengthAt (drop at bs)) ≤ length bs
-  room =
+  pub space : at + (w + 4 + lengthAt (drop at bs)) ≤ length bs
+  space =
       let l : length bs - at ≡ entrySize w entry + length tail = sym (length-drop at bs) ∙ ap length front-is ∙ length-laid w entry tail (o .each .0) in
       let s = on .start in
       let z = size-is in
@@ -65,7 +65,7 @@ module _ (w i at : ℕ) (bs : List ℕ) (es : List Entry) (on : On w bs at (drop
 
   pub on-more : (at′ : ℕ) → at′ ≡ at + (w + 4 + lengthAt (drop at bs)) → On w bs at′ (drop (i + 1) es)
   on-more at′ p =
-      let r = room in
+      let r = space in
       record {
         more = o .more;
         rest = ap (λ k. drop k bs) (p ∙ ap (λ n. at + n) size-is) ∙ sym (drop-drop (entrySize w entry) at bs) ∙ ap (drop (entrySize w entry)) front-is ∙ drop-laid w entry tail (o .each .0);

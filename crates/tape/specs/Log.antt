@@ -59,7 +59,7 @@ pub record Sound (w : ℕ) (e : Entry) : Type 0 where
 
 -- k entries stand at the front of some bytes
 pub record Logged (w k : ℕ) (bs : List ℕ) : Type 0 where
-  pub room : logSize w (logOf w k bs) ≤ length bs
+  pub space : logSize w (logOf w k bs) ≤ length bs
   pub whole : logBefore (logOf w k bs) (drop (logSize w (logOf w k bs)) bs) ≡ bs
   pub each : All (Sound w) (logOf w k bs)
 
@@ -71,7 +71,7 @@ recordsIn c (e ∷ es) = cond (eqb (e .container) c) (e .stored ∷ recordsIn c 
 -- at `at` in some bytes stands the record i of the records rs
 pub record Found (w : ℕ) (bs : List ℕ) (rs : List Rec) (i at : ℕ) : Type 0 where
   pub here : i < length rs
-  pub room : at + (w + 4 + lengthAt (drop at bs)) ≤ length bs
+  pub space : at + (w + 4 + lengthAt (drop at bs)) ≤ length bs
   pub is : entryOf w (drop at bs) .stored ≡ getD rs i noRecord
 
 -- the log with no entry of a container

@@ -56,7 +56,7 @@ impl<F: Fingerprint> Tape<F> {
         }
     }
 
-    // Adds an entry behind the others; the tape has room for whatever its container takes.
+    // Adds an entry behind the others; the tape has space for whatever its container takes.
     pub(crate) fn push(&mut self, container: usize, level: u8, fingerprint: F, payload: &[u8])
         requires here { ⌜ container < length (heldBy (F·Key .width) (now self)) ⌝ }
         requires short { ⌜ length (now payload) ≤ 1280 ⌝ }

@@ -60,7 +60,7 @@ pub(crate) fn put_front(to: &mut [u8], from: &[u8])
 
 // Writes an entry's head over the front of some bytes.
 fn put_head(to: &mut [u8], container: u8, level: u8, len: usize)
-    requires room { ⌜ 4 ≤ length (now to) ⌝ }
+    requires space { ⌜ 4 ≤ length (now to) ⌝ }
     requires short { ⌜ len < 2 ^ 16 ⌝ }
     ensures { λ _. ⌜ now (to .exit) ≡ container ∷ level ∷ (little 2 len ++ drop 4 (now (to .entry))) ⌝ }
 {
@@ -76,7 +76,7 @@ fn put_entry<F: Fingerprint>(
     fingerprint: F,
     payload: &[u8],
 )
-    requires room { ⌜ F·Key .width + 4 + length (now payload) ≤ length (now to) ⌝ }
+    requires space { ⌜ F·Key .width + 4 + length (now payload) ≤ length (now to) ⌝ }
     requires short { ⌜ length (now payload) ≤ 1280 ⌝ }
     ensures { λ _. ⌜ now (to .exit) ≡ laidBefore (record { container = container; stored = record { level = level; fingerprint = F·Key .bytes fingerprint; payload = now (payload .entry) } }) (drop (F·Key .width + 4 + length (now (payload .entry))) (now (to .entry))) ⌝ }
 {
@@ -95,7 +95,7 @@ pub(crate) fn add_entry<F: Fingerprint>(
     fingerprint: F,
     payload: &[u8],
 )
-    requires room { ⌜ at + (F·Key .width + 4 + length (now payload)) ≤ length (now bytes) ⌝ }
+    requires space { ⌜ at + (F·Key .width + 4 + length (now payload)) ≤ length (now bytes) ⌝ }
     requires short { ⌜ length (now payload) ≤ 1280 ⌝ }
     ensures { λ _. ⌜ now (bytes .exit) ≡ take at (now (bytes .entry)) ++ laidBefore (record { container = container; stored = record { level = level; fingerprint = F·Key .bytes fingerprint; payload = now (payload .entry) } }) (drop (F·Key .width + 4 + length (now (payload .entry))) (drop at (now (bytes .entry)))) ⌝ }
 {

@@ -13,4 +13,4 @@ pub mod Marks
 pub mod Markings
 pub mod Visiting
 pub mod Masks
-pub mod Rooms
+pub mod Spaces

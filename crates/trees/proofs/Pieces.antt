@@ -48,8 +48,8 @@ pub nth-cut : (w : ℕ) (payload : List ℕ) (i : ℕ) → i < length payload / 
 nth-cut w payload i h = nth-pieces (length payload / w) w payload i h
 
 piece-typed : (n w : ℕ) (bytes q : List ℕ) → n * w ≤ length bytes → Bytes bytes → In q (pieces n w bytes) → (length q ≡ w) × Bytes q
-piece-typed zero w bytes q room octets i = elim i [ ]
-piece-typed (suc n) w bytes q room octets i =
+piece-typed zero w bytes q space octets i = elim i [ ]
+piece-typed (suc n) w bytes q space octets i =
     let step : n * w + w ≤ length bytes = omega (arith, add-mul n 1 w) in
     ⊎-elim
     (λ (e : q ≡ take w bytes). (ap length e ∙ length-take-le w bytes (omega arith), subst-bytes (sym e) (all-take (λ b. b < 256) w bytes octets)))

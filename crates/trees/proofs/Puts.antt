@@ -28,9 +28,9 @@ none-count p (x ∷ rs) e =
       | false ↦ λ v u. let c : cond {A = ℕ} (sameBytes (x .fingerprint) p) 1 0 ≡ 0 = ap (λ b. cond b 1 0) v in omega (arith, none-count p rs u)
     ] refl e
 
-module _ (cs : Contents) (d : ℕ) (r : Rec) (room : d < length cs) (single : Single cs) (new : recordOf cs (r .fingerprint) ≡ None) where
+module _ (cs : Contents) (d : ℕ) (r : Rec) (space : d < length cs) (single : Single cs) (new : recordOf cs (r .fingerprint) ≡ None) where
   placed : Placed (suc d) cs r (appended cs d r)
-  placed = (d, room, (λ e. omega arith), refl)
+  placed = (d, space, (λ e. omega arith), refl)
 
   pub put-single : Single (appended cs d r)
   put-single p =

@@ -119,7 +119,7 @@ module _ {P : Type 0} (kids : P → List P) where
       let c′ = nth-there (kids p) (suc i) more in
       let at : x ≡ suc i * span n + 0 = ap (λ z. i * span n + z) e ∙ omega (arith, add-mul i 1 (span n)) in
       let under = mul-add-lt (suc i) (span n) 0 (length (kids p)) more pos in
-      let room = mul-add-lt (suc i) (span n) 0 64 (omega (arith, f .1)) pos in
+      let space = mul-add-lt (suc i) (span n) 0 64 (omega (arith, f .1)) pos in
       let to : y ≡ suc i * span n + 0 = is ∙ cond-false (eqb x full) (span (suc n)) x (ne-eqb x full (λ z. omega arith)) ∙ at in
       let s = seek-start n (c′ .0) (f .2 (c′ .0) (nth-in (kids p) (suc i) (c′ .0) (c′ .1))) in (
         ap (rest kids (suc n) p) to ∙ rest-at n p (suc i) 0 pos
@@ -132,7 +132,7 @@ module _ {P : Type 0} (kids : P → List P) where
       (λ (r : (b < span n) × ((z : P) × (seek kids n c b ≡ Some z))).
       let below = r .0 in
       let under = mul-add-lt i (span n) b (length (kids p)) lt below in
-      let room = mul-add-lt i (span n) b 64 (omega (arith, f .1)) below in
+      let space = mul-add-lt i (span n) b 64 (omega (arith, f .1)) below in
       let to : y ≡ x = is ∙ cond-false (eqb x full) (span (suc n)) x (ne-eqb x full (λ z. omega arith)) in (
         ap (rest kids (suc n) p) to ∙ rest-at n p i b below ∙ ap (λ o. ifSome [] (λ z. rest kids n z b) o ++ joined (strips kids n) (drop (suc i) (kids p))) hc,
         inr (omega arith, (r .1 .0, ap (seek kids (suc n) p) to ∙ seek-at n p i b below ∙ ap (ifSome None (λ z. seek kids n z b)) hc ∙ r .1 .1)),

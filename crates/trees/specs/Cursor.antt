@@ -13,7 +13,7 @@ use Rattle.std.specs.Finite.{nth}
 use Rattle.std.specs.Joined.{joined}
 use Rattle.trees.specs.Holding.{In, ifSome}
 
--- how many positions a tree of level n has room for: 64 to the n. It is also the end
+-- how many positions a tree of level n has space for: 64 to the n. It is also the end
 abbrev pub span : ℕ → ℕ
 span zero = 1
 span (suc n) = 64 * span n

@@ -107,12 +107,12 @@ fn main(rt: LibcRuntime) -> io::Result<()> {
     for vector in VECTORS.iter() {
         let text = vector.text;
         let hash = hash_of(vector.bytes);
-        let verdict = if hash == vector.hash {
+        let judged = if hash == vector.hash {
             "right"
         } else {
             "WRONG"
         };
-        println!(rt, "{hash:016x} {verdict} {text}")?;
+        println!(rt, "{hash:016x} {judged} {text}")?;
     }
     Ok(())
 }

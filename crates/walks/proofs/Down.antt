@@ -29,12 +29,12 @@ use Rattle.walks.proofs.Told.{none-cut, typed-at}
 pub record-there : (cs : Contents) (p : List ℕ) (o : Option Place) → o ≡ firstPlace cs p → ifSome None (standing cs) o ≡ recordOf cs p
 record-there cs p o e = ap (ifSome None (standing cs)) e ∙ place-tells p cs
 
--- the room of the level below, at the code's n - 1
-pub room-down : (n room : ℕ) → (n ≡ 0 → ⊥) → room ≡ span n → (room / 64 ≡ span (n - 1)) × (room ≡ 64 * span (n - 1)) × (0 < room / 64)
-room-down zero room no-zero e = absurd (no-zero refl)
-room-down (suc m) room no-zero e =
+-- the space of the level below, at the code's n - 1
+pub space-down : (n space : ℕ) → (n ≡ 0 → ⊥) → space ≡ span n → (space / 64 ≡ span (n - 1)) × (space ≡ 64 * span (n - 1)) × (0 < space / 64)
+space-down zero space no-zero e = absurd (no-zero refl)
+space-down (suc m) space no-zero e =
     let down : suc m - 1 ≡ m = omega arith in
-    let part : room / 64 ≡ span m = ap (λ x. x / 64) e ∙ mul-div-cancel-left (span m) {n = 64} (omega arith) in
+    let part : space / 64 ≡ span m = ap (λ x. x / 64) e ∙ mul-div-cancel-left (span m) {n = 64} (omega arith) in
     (part ∙ ap span (sym down), e ∙ ap (λ x. 64 * span x) (sym down), omega (arith, span-pos m))
 
 span-le : (n m : ℕ) → n ≤ m → span n ≤ span m
@@ -55,15 +55,15 @@ module _ {P : Type 0} (kids : P → List P) where
       ap₂ (λ x s. ifSome None (λ q. seek kids x q (at % s)) (nth (kids p) (at / s))) down s
       ∙ ap (ifSome None (λ q. seek kids (suc m - 1) q (at % b))) (sym is)
 
-  pub next-down : (n : ℕ) (p : P) (at b room count : ℕ) → (n ≡ 0 → ⊥) → room ≡ span n → b ≡ span (n - 1) → count ≡ length (kids p) → (o : Option P) → o ≡ nth (kids p) (at / b) → next kids n p at ≡ ifSome room (λ q. cond (eqb (at / b * b + next kids (n - 1) q (at % b)) (count * b)) room (at / b * b + next kids (n - 1) q (at % b))) o
-  next-down zero p at b room count no-zero r e l o is = absurd (no-zero refl)
-  next-down (suc m) p at b room count no-zero r e l o is =
+  pub next-down : (n : ℕ) (p : P) (at b space count : ℕ) → (n ≡ 0 → ⊥) → space ≡ span n → b ≡ span (n - 1) → count ≡ length (kids p) → (o : Option P) → o ≡ nth (kids p) (at / b) → next kids n p at ≡ ifSome space (λ q. cond (eqb (at / b * b + next kids (n - 1) q (at % b)) (count * b)) space (at / b * b + next kids (n - 1) q (at % b))) o
+  next-down zero p at b space count no-zero r e l o is = absurd (no-zero refl)
+  next-down (suc m) p at b space count no-zero r e l o is =
       let down : m ≡ suc m - 1 = omega arith in
       let s : span m ≡ b = ap span down ∙ sym e in
       let to : ℕ → ℕ → ℕ → P → ℕ → ℕ = λ x s r q c. cond (eqb (at / s * s + next kids x q (at % s)) (c * s)) r (at / s * s + next kids x q (at % s)) in
       ap₂ (λ x s. ifSome (span (suc m)) (λ q. to x s (span (suc m)) q (length (kids p))) (nth (kids p) (at / s))) down s
       ∙ ap₂ (λ r c. ifSome r (λ q. to (suc m - 1) b r q c) (nth (kids p) (at / b))) (sym r) (sym l)
-      ∙ ap (ifSome room (λ q. to (suc m - 1) b room q count)) (sym is)
+      ∙ ap (ifSome space (λ q. to (suc m - 1) b space q count)) (sym is)
 
 module _ {K : Type 0} (on : Ground K) where
   abbrev bytes : K → List ℕ
@@ -113,25 +113,25 @@ module _ {K : Type 0} (on : Ground K) where
       the-child child h = piece-bytes (payloadOf (standing cs x)) (listed-bytes x (standing cs x) refl) i child h ∙ ap (λ qs. nth qs i) listed-at
 
   -- a node at level n, which is not 0, in a tree of a device
-  module _ (p : List ℕ) (n room at : ℕ) (no-zero : n ≡ 0 → ⊥) (r : room ≡ span n) where
+  module _ (p : List ℕ) (n space at : ℕ) (no-zero : n ≡ 0 → ⊥) (r : space ≡ span n) where
     abbrev b : ℕ
-    b = room / 64
+    b = space / 64
 
     seek-to : (o : Option (List ℕ)) → o ≡ nth (children w cs p) (at / b) → ifSome None (λ q. ifSome None (firstPlace cs) (seek (children w cs) (n - 1) q (at % b))) o ≡ ifSome None (firstPlace cs) (seek (children w cs) n p at)
-    seek-to o is = both o ∙ sym (ap (ifSome None (firstPlace cs)) (seek-down (children w cs) n p at b no-zero (room-down n room no-zero r .0) o is))
+    seek-to o is = both o ∙ sym (ap (ifSome None (firstPlace cs)) (seek-down (children w cs) n p at b no-zero (space-down n space no-zero r .0) o is))
       where
         both : (o : Option (List ℕ)) → ifSome None (λ q. ifSome None (firstPlace cs) (seek (children w cs) (n - 1) q (at % b))) o ≡ ifSome None (firstPlace cs) (ifSome None (λ q. seek (children w cs) (n - 1) q (at % b)) o)
         both None = refl
         both (Some q) = refl
 
-    next-to : (count : ℕ) → count ≡ length (children w cs p) → (o : Option (List ℕ)) → o ≡ nth (children w cs p) (at / b) → next (children w cs) n p at ≡ ifSome room (λ q. cond (eqb (at / b * b + next (children w cs) (n - 1) q (at % b)) (count * b)) room (at / b * b + next (children w cs) (n - 1) q (at % b))) o
-    next-to count l o is = next-down (children w cs) n p at b room count no-zero r (room-down n room no-zero r .0) l o is
+    next-to : (count : ℕ) → count ≡ length (children w cs p) → (o : Option (List ℕ)) → o ≡ nth (children w cs p) (at / b) → next (children w cs) n p at ≡ ifSome space (λ q. cond (eqb (at / b * b + next (children w cs) (n - 1) q (at % b)) (count * b)) space (at / b * b + next (children w cs) (n - 1) q (at % b))) o
+    next-to count l o is = next-down (children w cs) n p at b space count no-zero r (space-down n space no-zero r .0) l o is
 
     module _ (none : None ≡ firstPlace cs p) where
       pub strip-no-place : None ≡ ifSome None (firstPlace cs) (seek (children w cs) n p at)
       strip-no-place = seek-to None (no-place p (at / b) none)
 
-      pub next-no-place : room ≡ next (children w cs) n p at
+      pub next-no-place : space ≡ next (children w cs) n p at
       next-no-place = sym (next-to _ refl None (no-place p (at / b) none))
 
     module _ (x : Place) (e : Some x ≡ firstPlace cs p) where
@@ -139,7 +139,7 @@ module _ {K : Type 0} (on : Ground K) where
         pub strip-no-child : None ≡ ifSome None (firstPlace cs) (seek (children w cs) n p at)
         strip-no-child = seek-to None (no-child p (at / b) x e none)
 
-        pub next-no-child : room ≡ next (children w cs) n p at
+        pub next-no-child : space ≡ next (children w cs) n p at
         next-no-child = sym (next-to _ refl None (no-child p (at / b) x e none))
 
       module _ (child : K) (is : Some child ≡ asKey key (nth (cut w (payloadOf (standing cs x))) (at / b))) where
@@ -153,25 +153,25 @@ module _ {K : Type 0} (on : Ground K) where
           counted : count ≡ length (children w cs p)
           counted = l ∙ ap length (listed-at p (at / b) x e)
 
-          next-is : next (children w cs) n p at ≡ cond (eqb (at / b * b + y) (count * b)) room (at / b * b + y)
-          next-is = next-to count counted (Some (bytes child)) this ∙ ap (λ z. cond (eqb (at / b * b + z) (count * b)) room (at / b * b + z)) (sym h)
+          next-is : next (children w cs) n p at ≡ cond (eqb (at / b * b + y) (count * b)) space (at / b * b + y)
+          next-is = next-to count counted (Some (bytes child)) this ∙ ap (λ z. cond (eqb (at / b * b + z) (count * b)) space (at / b * b + z)) (sym h)
 
           -- behind the last child it is the end
-          pub next-end : at / b * b + y ≡ count * b → room ≡ next (children w cs) n p at
-          next-end s = sym (next-is ∙ cond-true (eqb (at / b * b + y) (count * b)) room (at / b * b + y) (eq-eqb (at / b * b + y) (count * b) s))
+          pub next-end : at / b * b + y ≡ count * b → space ≡ next (children w cs) n p at
+          next-end s = sym (next-is ∙ cond-true (eqb (at / b * b + y) (count * b)) space (at / b * b + y) (eq-eqb (at / b * b + y) (count * b) s))
 
           pub next-on : (at / b * b + y ≡ count * b → ⊥) → at / b * b + y ≡ next (children w cs) n p at
-          next-on s = sym (next-is ∙ cond-false (eqb (at / b * b + y) (count * b)) room (at / b * b + y) (ne-eqb (at / b * b + y) (count * b) s))
+          next-on s = sym (next-is ∙ cond-false (eqb (at / b * b + y) (count * b)) space (at / b * b + y) (ne-eqb (at / b * b + y) (count * b) s))
 
-          -- no position passes 128 times the room, also where a broken record has 7168 children
+          -- no position passes 128 times the space, also where a broken record has 7168 children
           pub next-small : count ≤ 7168 → y ≤ 128 * span (n - 1) → at / b * b + y ≤ 128 * span n
           next-small few small =
               let u = nth-under (children w cs p) (at / b) (bytes child) (sym this) in
               let i : at / b ≤ 7167 = omega (arith, counted) in
-              let down = room-down n room no-zero r in
+              let down = space-down n space no-zero r in
               omega (arith, mul-le (at / b) b 7167 b i (omega arith), down .0, down .1, r)
 
           pub count-small : count ≤ 7168 → n ≤ 6 → count * b ≤ 0x800_0000_0000
           count-small few low =
-              let down = room-down n room no-zero r in
+              let down = space-down n space no-zero r in
               omega (arith, mul-le count b 7168 b few (omega arith), span-small n low, down .0, down .1, r)

@@ -34,23 +34,23 @@ module _ {K : Type 0} (bytes : K → List ℕ) where
   length-placed Full k xs = refl
 
   -- one key more
-  module _ (k : K) (xs : List (Option K)) (p : Probe) (ys : List (Option K)) (h : Inserted bytes k xs p ys) (room : isFull p ≡ false) (sound : Sound bytes xs) where
+  module _ (k : K) (xs : List (Option K)) (p : Probe) (ys : List (Option K)) (h : Inserted bytes k xs p ys) (space : isFull p ≡ false) (sound : Sound bytes xs) where
     holds-more : (x : K) → holds bytes xs x ≡ true → holds bytes ys x ≡ true
-    holds-more x e = h .exact sound room x ∙ ap (λ b. sameBytes (bytes k) (bytes x) || b) e ∙ or-true (sameBytes (bytes k) (bytes x))
+    holds-more x e = h .exact sound space x ∙ ap (λ b. sameBytes (bytes k) (bytes x) || b) e ∙ or-true (sameBytes (bytes k) (bytes x))
       where
         or-true : (b : Bool) → (b || true) ≡ true
         or-true true = refl
         or-true false = refl
 
     holds-new : (x : K) → bytes x ≡ bytes k → holds bytes ys x ≡ true
-    holds-new x e = h .exact sound room x ∙ ap (λ b. b || holds bytes xs x) (ap (sameBytes (bytes k)) e ∙ same-self (bytes k))
+    holds-new x e = h .exact sound space x ∙ ap (λ b. b || holds bytes xs x) (ap (sameBytes (bytes k)) e ∙ same-self (bytes k))
 
     holds-before : (x : K) → holds bytes ys x ≡ true → (bytes x ≡ bytes k) ⊎ (holds bytes xs x ≡ true)
     holds-before x e =
         elim (sameBytes (bytes k) (bytes x)) as (λ b. sameBytes (bytes k) (bytes x) ≡ b → (b || holds bytes xs x) ≡ true → (bytes x ≡ bytes k) ⊎ (holds bytes xs x ≡ true)) [
           | true ↦ λ s o. inl (sym (same-equal (bytes k) (bytes x) s))
           | false ↦ λ s o. inr o
-        ] refl (sym (h .exact sound room x) ∙ e)
+        ] refl (sym (h .exact sound space x) ∙ e)
 
     admitted-more : (cs : Contents) (n : ℕ) (children : List (List ℕ)) → Admitted bytes cs n children xs → Admitted bytes cs n children ys
     admitted-more cs n children a q i = let b = a q i in (b .0, λ x e. holds-more x (b .1 x e))
@@ -79,7 +79,7 @@ module _ {K : Type 0} (bytes : K → List ℕ) where
               (λ (e : f ≡ bytes k). subst (λ (g : List ℕ). (r : Rec) × (recordOf cs g ≡ Some r)) (sym e) stored)
               (λ i. c .stored f i);
         }
-        go Full e = absurd (both-ways (isFull p) room (ap isFull e))
+        go Full e = absurd (both-ways (isFull p) space (ap isFull e))
 
   -- a table that takes no more has fewer slots than there are records
   full-short : (cs : Contents) (k : K) (xs : List (Option K)) → Sound bytes xs → Counted bytes cs xs → ((r : Rec) × (recordOf cs (bytes k) ≡ Some r)) → othersOnly bytes k xs ≡ true → length xs < length (all cs)
@@ -97,16 +97,16 @@ module _ {K : Type 0} (bytes : K → List ℕ) where
   module _ (w : ℕ) (cs : Contents) (root : List ℕ) (slots n : ℕ) where
     -- a child of a held node goes into the table
     pub sweep-insert : (done : List (List ℕ)) (xs : List (Option K)) → Sweep bytes w cs root slots n done xs → 1 ≤ n → (x : Place) (p : K) (r : Rec) → Parent bytes cs x n xs p r → (k : K) → In (bytes k) (cut w (r .payload)) → StoredUnder cs n (bytes k) → (o : Probe) (ys : List (Option K)) → Inserted bytes k xs o ys → isFull o ≡ false → Sweep bytes w cs root slots n done ys × Parent bytes cs x n ys p r
-    sweep-insert done xs s pos x p r f k i under o ys h room =
-        let more = holds-more k xs o ys h room (s .sound) in
-        let cases = holds-before k xs o ys h room (s .sound) in
-        let keeps = admitted-more k xs o ys h room (s .sound) cs in
+    sweep-insert done xs s pos x p r f k i under o ys h space =
+        let more = holds-more k xs o ys h space (s .sound) in
+        let cases = holds-before k xs o ys h space (s .sound) in
+        let keeps = admitted-more k xs o ys h space (s .sound) cs in
         let low : (z : K) (y : Rec) → bytes z ≡ bytes k → recordOf cs (bytes z) ≡ Some y → y .level + 1 ≡ n = λ z y e g.
         (let same : under .0 .level ≡ y .level = ap levelOf (sym (under .1) ∙ ap (recordOf cs) (sym e) ∙ g) in omega (arith, under .2)) in (
           record {
             long = ap length (h .after) ∙ length-placed o k xs ∙ s .long;
             sound = h .sound (s .sound);
-            counted = counted-more k xs o ys h room (s .sound) cs (under .0, under .1) (s .counted);
+            counted = counted-more k xs o ys h space (s .sound) cs (under .0, under .1) (s .counted);
             top = s .top;
             start = λ z e. more z (s .start z e);
             reached = λ z y. ⊎-elim
@@ -124,11 +124,11 @@ module _ {K : Type 0} (bytes : K → List ℕ) where
 
     -- what was admitted stays so, and the child is admitted too
     pub admitted-insert : (done : List (List ℕ)) (xs : List (Option K)) → Sweep bytes w cs root slots n done xs → (k : K) → StoredUnder cs n (bytes k) → (o : Probe) (ys : List (Option K)) → Inserted bytes k xs o ys → isFull o ≡ false → (children : List (List ℕ)) → Admitted bytes cs n children xs → Admitted bytes cs n (children ++ (bytes k ∷ [])) ys
-    admitted-insert done xs s k under o ys h room children a q i =
+    admitted-insert done xs s k under o ys h space children a q i =
         ⊎-elim
-        (λ j. admitted-more k xs o ys h room (s .sound) cs n children a q j)
+        (λ j. admitted-more k xs o ys h space (s .sound) cs n children a q j)
         (⊎-elim
-        (λ (e : q ≡ bytes k). (subst (StoredUnder cs n) (sym e) under, λ z d. holds-new k xs o ys h room (s .sound) z (d ∙ e)))
+        (λ (e : q ≡ bytes k). (subst (StoredUnder cs n) (sym e) under, λ z d. holds-new k xs o ys h space (s .sound) z (d ∙ e)))
         (λ j. elim j [ ]))
         (in-either q children (bytes k ∷ []) i)
 
@@ -210,14 +210,14 @@ module _ {K : Type 0} (bytes : K → List ℕ) where
 
   -- the root alone is held
   pub sweep-start : (w : ℕ) (cs : Contents) (k : K) (r : Rec) (xs : List (Option K)) → Emptied bytes xs → recordOf cs (bytes k) ≡ Some r → 1 ≤ r .level → (o : Probe) (ys : List (Option K)) → Inserted bytes k xs o ys → isFull o ≡ false → Sweep bytes w cs (bytes k) (length xs) (r .level) [] ys
-  sweep-start w cs k r xs e is pos o ys h room =
-      let only : (z : K) → holds bytes ys z ≡ true → bytes z ≡ bytes k = λ z g. ⊎-elim (λ x. x) (λ x. absurd (both-ways (holds bytes xs z) (e .exact z) x)) (holds-before k xs o ys h room (e .sound) z g) in
+  sweep-start w cs k r xs e is pos o ys h space =
+      let only : (z : K) → holds bytes ys z ≡ true → bytes z ≡ bytes k = λ z g. ⊎-elim (λ x. x) (λ x. absurd (both-ways (holds bytes xs z) (e .exact z) x)) (holds-before k xs o ys h space (e .sound) z g) in
       record {
         long = ap length (h .after) ∙ length-placed o k xs;
         sound = h .sound (e .sound);
-        counted = counted-more k xs o ys h room (e .sound) cs (r, is) (none-counted cs xs (e .none));
+        counted = counted-more k xs o ys h space (e .sound) cs (r, is) (none-counted cs xs (e .none));
         top = (r, is, pos);
-        start = λ z same. holds-new k xs o ys h room (e .sound) z same;
+        start = λ z same. holds-new k xs o ys h space (e .sound) z same;
         reached = λ z g. subst (Reaches w cs (bytes k)) (sym (only z g)) itself;
         above = λ z y g f l. absurd (let same : r .level ≡ y .level = ap levelOf (sym is ∙ ap (recordOf cs) (sym (only z g)) ∙ f) in omega arith);
         here = λ z y g i f l. elim i [ ];

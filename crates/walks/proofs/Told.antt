@@ -70,9 +70,9 @@ module _ (cs : Contents) (x : Place) where
         | false ↦ λ t h. absurd (not-refused n _ h)
       ] refl e
     where
-      fits : (n m room : ℕ) → Ok n ≡ fitting m room → m ≡ n
-      fits n m room h =
-          elim (leb m room) as (λ b. Ok n ≡ cond b (Ok m) (Err (untold TooShort)) → m ≡ n) [
+      fits : (n m space : ℕ) → Ok n ≡ fitting m space → m ≡ n
+      fits n m space h =
+          elim (leb m space) as (λ b. Ok n ≡ cond b (Ok m) (Err (untold TooShort)) → m ≡ n) [
             | true ↦ λ h. cc
             | false ↦ λ h. absurd (not-refused n _ h)
           ] h
@@ -116,13 +116,13 @@ module _ (cs : Contents) (x : Place) where
         some-same e = cc
 
     -- a buffer for a container's payload bytes takes any payload
-    pub not-copied : (e : Refusal) (room : ℕ) → 7168 ≤ room → Err e ≡ payloadAnswer cs x room → standing cs x ≡ None
-    not-copied e room big h =
+    pub not-copied : (e : Refusal) (space : ℕ) → 7168 ≤ space → Err e ≡ payloadAnswer cs x space → standing cs x ≡ None
+    not-copied e space big h =
         let p = recordAt cs x .payload in
-        elim (ltb (x .index) (length (recordsOf cs (x .container)))) as (λ b. ltb (x .index) (length (recordsOf cs (x .container))) ≡ b → Err e ≡ cond b (fitting (length p) room) (Err (untold NoSuchPlace)) → standing cs x ≡ None) [
+        elim (ltb (x .index) (length (recordsOf cs (x .container)))) as (λ b. ltb (x .index) (length (recordsOf cs (x .container))) ≡ b → Err e ≡ cond b (fitting (length p) space) (Err (untold NoSuchPlace)) → standing cs x ≡ None) [
           | true ↦ λ t h.
               let few = payload-few (recordAt cs x) (there (ltb-true _ _ t)) in
-              let fit : fitting (length p) room ≡ Ok (length p) = ap (λ b. cond b (Ok (length p)) (Err (untold TooShort))) (le-leb (length p) room (omega arith)) in
+              let fit : fitting (length p) space ≡ Ok (length p) = ap (λ b. cond b (Ok (length p)) (Err (untold TooShort))) (le-leb (length p) space (omega arith)) in
               absurd (not-refused (length p) e (sym (h ∙ fit)))
           | false ↦ λ t h. nowhere (ltb-false _ _ t)
         ] refl h
@@ -150,16 +150,16 @@ none-cut w i =
 
 -- the piece that is read off the bytes from its first on
 module _ {K : Type 0} (key : List ℕ → K) (w width : ℕ) (is : width ≡ w) (some : 1 ≤ w) (payload : List ℕ) (i : ℕ) where
-  pub piece-room : i < length payload / width → i * width + width ≤ length payload
-  piece-room h = let m = le-div-iff-mul-le {k = width} {x = suc i} {y = length payload} (omega arith) .0 (omega arith) in omega (arith, add-mul i 1 width)
+  pub piece-space : i < length payload / width → i * width + width ≤ length payload
+  piece-space h = let m = le-div-iff-mul-le {k = width} {x = suc i} {y = length payload} (omega arith) .0 (omega arith) in omega (arith, add-mul i 1 width)
 
   pub piece-read : (r : Option K) → i < length payload / width → r ≡ cond (leb w (length (take (length payload - i * width) (drop (i * width) payload)))) (Some (key (take w (take (length payload - i * width) (drop (i * width) payload))))) None → r ≡ asKey key (nth (cut w payload) i)
   piece-read r h e =
       let part : take (length payload - i * width) (drop (i * width) payload) ≡ drop (i * w) payload = take-rest payload (i * width) ∙ ap (λ n. drop (i * n) payload) is in
-      let room : w ≤ length (drop (i * w) payload) = simp length-drop (rw (sym is) (omega (arith, piece-room h))) in
+      let space : w ≤ length (drop (i * w) payload) = simp length-drop (rw (sym is) (omega (arith, piece-space h))) in
       e
       ∙ ap (λ xs. cond (leb w (length xs)) (Some (key (take w xs))) None) part
-      ∙ ap (λ b. cond b (Some (key (take w (drop (i * w) payload)))) None) (le-leb w (length (drop (i * w) payload)) room)
+      ∙ ap (λ b. cond b (Some (key (take w (drop (i * w) payload)))) None) (le-leb w (length (drop (i * w) payload)) space)
       ∙ sym (ap (asKey key) (nth-cut w payload i (subst (λ (n : ℕ). i < length payload / n) is h)))
 
   pub piece-none : length payload / width ≤ i → None ≡ asKey key (nth (cut w payload) i)

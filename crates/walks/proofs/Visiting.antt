@@ -184,9 +184,9 @@ module _ {K : Type 0} (on : Ground K) (root : List ℕ) (slots n : ℕ) where
         let k : m ≡ m - 0 = omega arith in
         same ∙ sym (d .2) ∙ ap (λ j. take j after) k
 
-    pub node-refused : (e : Refusal) (room : ℕ) → 7168 ≤ room → Err e ≡ payloadAnswer cs x room → ⊥
-    node-refused e room big h =
-        let none = not-copied cs x w (on .held) e room big h in
+    pub node-refused : (e : Refusal) (space : ℕ) → 7168 ≤ space → Err e ≡ payloadAnswer cs x space → ⊥
+    node-refused e space big h =
+        let none = not-copied cs x w (on .held) e space big h in
         let z : _≡_ {A = ℕ} 0 1 = (let t = stood in cc) in omega arith
 
   module _ (done : List (List ℕ)) (p : K) where
@@ -274,7 +274,7 @@ absent-is w cs root slots (Broken x) t none = absurd (go (t .node) (t .parent) (
 absent-is w cs root slots TableFull t none = absurd (none (t .0))
 
 pub whole-is : (w : ℕ) (cs : Contents) (root : List ℕ) (slots : ℕ) (e : Finding) → Tells w cs root slots e → length (all cs) ≤ slots → WholeTree w cs root → e ≡ Whole
-whole-is w cs root slots Whole t room whole = refl
-whole-is w cs root slots NoRoot t room whole = absurd (t (whole .top))
-whole-is w cs root slots (Broken x) t room whole = absurd (t .missing (whole .below (t .node) (t .child) (t .parent) (t .reached) (t .is) (t .above) (t .lists)))
-whole-is w cs root slots TableFull t room whole = absurd (omega (arith, t .1))
+whole-is w cs root slots Whole t space whole = refl
+whole-is w cs root slots NoRoot t space whole = absurd (t (whole .top))
+whole-is w cs root slots (Broken x) t space whole = absurd (t .missing (whole .below (t .node) (t .child) (t .parent) (t .reached) (t .is) (t .above) (t .lists)))
+whole-is w cs root slots TableFull t space whole = absurd (omega (arith, t .1))

@@ -12,7 +12,7 @@ use keys::Key;
 use records::Place;
 
 // The most payload bytes of a container, so that a buffer of this length takes any payload.
-pub(crate) const ROOM: usize = 7168;
+pub(crate) const LONGEST: usize = 7168;
 
 // The fingerprint at an index of a payload, if the payload has so many.
 pub(crate) fn piece_at<F: Fingerprint>(payload: &[u8], index: usize) -> Option<F>
@@ -29,7 +29,7 @@ pub(crate) fn piece_at<F: Fingerprint>(payload: &[u8], index: usize) -> Option<F
 pub(crate) fn child_at<D: Device>(device: &D, place: Place, index: usize) -> Option<D::Kind>
     ensures { λ r. ⌜ r ≡ asKey (Kind·Key .key) (nth (cut (Kind·Key .width) (payloadOf (standing (contents (now (device .entry))) place))) index) ⌝ }
 {
-    let mut buffer = [0u8; ROOM];
+    let mut buffer = [0u8; LONGEST];
     match device.payload(place, &mut buffer) {
         Ok(long) => piece_at(&buffer[0..long], index),
         Err(_) => None,

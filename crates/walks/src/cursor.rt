@@ -12,8 +12,8 @@ use crate::children::child_count;
 use devices::Device;
 use records::Place;
 
-// How many positions a tree of a level has room for.
-fn room_at(level: u8) -> u64
+// How many positions a tree of a level has space for.
+fn span_of(level: u8) -> u64
     requires { ⌜ level ≤ 6 ⌝ }
     ensures { λ r. ⌜ r ≡ span level ⌝ }
 {
@@ -46,10 +46,10 @@ fn strip_below<D: Device>(
     device: &D,
     node: D::Kind,
     level: u8,
-    room: u64,
+    space: u64,
     position: u64,
 ) -> Option<Place>
-    requires { ⌜ room ≡ span level ⌝ }
+    requires { ⌜ space ≡ span level ⌝ }
     ensures { λ r. ⌜ r ≡ ifSome None (firstPlace (contents (now (device .entry)))) (seek (children (Kind·Key .width) (contents (now (device .entry)))) level (Kind·Key .bytes node) position) ⌝ }
 {
     if level == 0 {
@@ -59,33 +59,33 @@ fn strip_below<D: Device>(
             None
         };
     }
-    let below = room / 64;
+    let below = space / 64;
     let place = device.first_place(node)?;
     let child = child_at(device, place, (position / below) as usize)?;
     strip_below(device, child, level - 1, below, position % below)
 }
 
 // The position after one below a node.
-fn next_below<D: Device>(device: &D, node: D::Kind, level: u8, room: u64, position: u64) -> u64
+fn next_below<D: Device>(device: &D, node: D::Kind, level: u8, space: u64, position: u64) -> u64
     requires low { ⌜ level ≤ 6 ⌝ }
-    requires room { ⌜ room ≡ span level ⌝ }
+    requires space { ⌜ space ≡ span level ⌝ }
     ensures is { λ r. ⌜ r ≡ next (children (Kind·Key .width) (contents (now (device .entry)))) level (Kind·Key .bytes node) position ⌝ }
     ensures small { λ r. ⌜ r ≤ 128 * span level ⌝ }
 {
     if level == 0 {
         return 1;
     }
-    let below = room / 64;
+    let below = space / 64;
     let Some(place) = device.first_place(node) else {
-        return room;
+        return space;
     };
     let Some(child) = child_at(device, place, (position / below) as usize) else {
-        return room;
+        return space;
     };
     let count = child_count(device, place) as u64;
     let to = position / below * below
         + next_below(device, child, level - 1, below, position % below);
-    if to == count * below { room } else { to }
+    if to == count * below { space } else { to }
 }
 
 // The place of the strip at a position of the tree under a root, if the position is one of a strip there.
@@ -96,7 +96,7 @@ pub fn strip_at<D: Device>(device: &D, root: D::Kind, position: u64) -> Option<P
     if level > 6 {
         return None;
     }
-    strip_below(device, root, level, room_at(level), position)
+    strip_below(device, root, level, span_of(level), position)
 }
 
 // The position after one of the tree under a root: that of the next strip, or the end.
@@ -107,5 +107,5 @@ pub fn position_after<D: Device>(device: &D, root: D::Kind, position: u64) -> u6
     if level > 6 {
         return 0;
     }
-    next_below(device, root, level, room_at(level), position)
+    next_below(device, root, level, span_of(level), position)
 }

@@ -10,7 +10,7 @@ ghost use Rattle.slots.specs.Walks.{keysOf};
 ghost use Rattle.trees.specs.Holding.{recordOf};
 ghost use Rattle.trees.specs.Trees.{StoredUnder, stands};
 ghost use Rattle.walks.specs.Sweeps.{Admits, AdmitsAll, Moves};
-use crate::children::ROOM;
+use crate::children::LONGEST;
 use crate::children::piece_at;
 use crate::finding::Finding;
 use devices::Device;
@@ -90,7 +90,7 @@ fn admit_children<D: Device>(
     requires { ⌜ 1 ≤ level ⌝ }
     ensures { λ r. ⌜ ((payload : List ℕ) → AdmitsAll (Kind·Key .bytes) (Kind·Key .width) (contents (now (device .entry))) place level payload (keysOf (now (table .entry))) (keysOf (now (table .exit))) r) ⌝ }
 {
-    let mut buffer = [0u8; ROOM];
+    let mut buffer = [0u8; LONGEST];
     match device.payload(place, &mut buffer) {
         Ok(long) => admit_pieces(device, place, level, &buffer[0..long], table),
         Err(_) => Ok(()),

@@ -11,7 +11,7 @@ use Rattle.records.specs.Records.{Rec}
 use Rattle.devices.proofs.Holding.{answer-there}
 use Rattle.devices.specs.Questions.{recordAt}
 use Rattle.admission.specs.Causes.{faultOf}
-use Rattle.admission.proofs.Asking.{payload-told, same-ok, name-told}
+use Rattle.devices.proofs.Asking.{payload-told, same-ok, name-told}
 use Rattle.admission.proofs.causes.fault_at.Needs as need
 
 pub returns-in-Break-len : need.returns-in-Break-len

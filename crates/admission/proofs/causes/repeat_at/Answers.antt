@@ -4,7 +4,7 @@ use Rattle.std.specs.declared.result.Result.the-variants.{Ok}
 use Rattle.records.specs.Records.{firstPlace}
 use Rattle.records.specs.declared.refusal.Cause.the-variants.{RepeatedFingerprint}
 use Rattle.admission.specs.Causes.{isEarlier}
-use Rattle.admission.proofs.Asking.{name-told}
+use Rattle.devices.proofs.Asking.{name-told}
 use Rattle.admission.proofs.causes.repeat_at.Needs as need
 
 pub returns : need.returns

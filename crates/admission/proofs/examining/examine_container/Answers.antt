@@ -6,8 +6,8 @@ use lib.ListN.{length}
 use Rattle.std.specs.declared.result.Result.the-variants.{Err}
 use Rattle.devices.specs.Questions.{recordsOf}
 use Rattle.admission.specs.Causes.{causeOf}
-use Rattle.admission.specs.Admission.{verdict}
-use Rattle.admission.proofs.Asking.{same-ok, records-told}
+use Rattle.admission.specs.Admission.{answerBy}
+use Rattle.devices.proofs.Asking.{same-ok, records-told}
 use Rattle.admission.proofs.Searching.{among-here, among-more, among-all}
 use Rattle.admission.proofs.examining.examine_container.Needs as need
 
@@ -19,7 +19,7 @@ returns-in-Some g c =
     let rs = recordsOf cs (c .args .container) in
     let n = same-ok _ _ _ (c .in-Continue-count .ensures tt) (records-told cs (c .args .container) (c .pre)) in
     let inside : c .loop-index .index < length rs = (let t = c .loop-index-test .taken in omega arith) in
-    ap Err (c .at .ensures) ∙ ap verdict (sym (among-here judge (c .args .container) (c .loop-index .index) rs (c .in-Some .cause) inside (sym (same-ok _ _ _ (c .in-Continue-cause .ensures tt) refl) ∙ c .in-Some .is)) ∙ c .loop-index .inv)
+    ap Err (c .at .ensures) ∙ ap answerBy (sym (among-here judge (c .args .container) (c .loop-index .index) rs (c .in-Some .cause) inside (sym (same-ok _ _ _ (c .in-Continue-cause .ensures tt) refl) ∙ c .in-Some .is)) ∙ c .loop-index .inv)
 
 pub loop-index-again : need.loop-index-again
 loop-index-again g c =
@@ -38,4 +38,4 @@ returns g c =
     let judge = causeOf (g .Kind·Key .width) name cs (c .args .examination) in
     let rs = recordsOf cs (c .args .container) in
     let n = same-ok _ _ _ (c .in-Continue-count .ensures tt) (records-told cs (c .args .container) (c .pre)) in
-    ap verdict (sym (among-all judge (c .args .container) (c .loop-index .index) rs (let t = c .loop-index-test .left in omega arith)) ∙ c .loop-index .inv)
+    ap answerBy (sym (among-all judge (c .args .container) (c .loop-index .index) rs (let t = c .loop-index-test .left in omega arith)) ∙ c .loop-index .inv)

@@ -8,7 +8,7 @@ use Rattle.container_format.proofs.acceptance.entries_in_order.Needs as need
 pub entry-length-requires : need.entry-length-requires
 entry-length-requires c κs =
     let k = enough _ _ _ _ _ _ _ _ _ (c .loop-i .inv) (c .loop-i-test .taken) (c .pre .few) in
-    let r = c .loop-i .inv .room in
+    let r = c .loop-i .inv .space in
     record { narrow = c .pre .narrow; long = k; inside = omega arith }
 
 pub part-rest-count : need.part-rest-count

@@ -1,9 +1,10 @@
 use mathlib.Core.Path.{sym, ap, _∙_}
 use native.Mathlib.Omega.{arith}
 use Rattle.std.proofs.shelf.Lists.{take-all}
+use Rattle.devices.proofs.Asking.{same-ok, records-told}
 use Rattle.devices.specs.Questions.{recordsOf}
 use Rattle.copying.specs.Copies.{withMore}
-use Rattle.copying.proofs.Stacking.{same-ok, more-none, copied-one, records-told}
+use Rattle.copying.proofs.Stacking.{more-none, copied-one}
 use Rattle.copying.proofs.copies.copy_container.Needs as need
 
 pub loop-index-holds : need.loop-index-holds

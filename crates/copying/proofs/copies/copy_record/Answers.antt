@@ -7,10 +7,10 @@ use lib.ListN.{length, take, drop, replicate}
 use Rattle.std.proofs.shelf.Lists.{take-at}
 use Rattle.std.specs.Results.{isOk}
 use Rattle.records.specs.Records.{Rec}
-use Rattle.devices.proofs.Holding.{answer-there, typed-at}
+use Rattle.devices.proofs.Asking.{same-ok, payload-told, name-told}
+use Rattle.devices.proofs.Holding.{answer-there}
 use Rattle.devices.specs.Changes.{appendAnswer, appendAfter}
 use Rattle.devices.specs.Questions.{recordAt}
-use Rattle.copying.proofs.Stacking.{payload-told, same-ok}
 use Rattle.copying.proofs.copies.copy_record.Needs as need
 
 pub returns-in-Break-len : need.returns-in-Break-len
@@ -29,9 +29,7 @@ returns g c =
     let r = recordAt cs p in
     let held = g .X·Device·met .held (c .args .from .now) in
     let level : c .in-Continue-level .level ≡ r .level = same-ok _ _ _ (c .in-Continue-level .ensures tt) (answer-there (λ x. x .level) cs p (c .pre)) in
-    let key : c .in-Continue-fingerprint .fingerprint ≡ g .Kind·Key .key (r .fingerprint) = same-ok _ _ _ (c .in-Continue-fingerprint .ensures tt) (answer-there (λ x. g .Kind·Key .key (x .fingerprint)) cs p (c .pre)) in
-    let typed = typed-at w cs p held (c .pre) in
-    let name : g .Kind·Key .bytes (c .in-Continue-fingerprint .fingerprint) ≡ r .fingerprint = ap (g .Kind·Key .bytes) key ∙ g .Kind·Key·met .any (r .fingerprint) (typed .wide) (typed .fingerprint) in
+    let name : g .Kind·Key .bytes (c .in-Continue-fingerprint .fingerprint) ≡ r .fingerprint = name-told (g .Kind·Key .bytes) (g .Kind·Key .key) w (g .Kind·Key·met .any) cs p held (c .pre) (c .in-Continue-fingerprint .fingerprint) (c .in-Continue-fingerprint .ensures tt) in
     let told = payload-told w cs p held (c .pre) in
     let len : c .in-Continue-len .len ≡ length (r .payload) = same-ok _ _ _ (c .in-Continue-len .ensures tt .answer) told in
     let filled : c .payload .last .to ≡ r .payload ++ drop (length (r .payload)) (replicate 7168 0) =

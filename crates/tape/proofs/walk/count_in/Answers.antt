@@ -1,7 +1,7 @@
 use mathlib.Core.Path.{sym, ap, _∙_}
 use Prim.Native.Nat.{_+_}
 use native.Mathlib.Omega.{arith}
-use Rattle.tape.proofs.Walks.{room, turn-in, end-in}
+use Rattle.tape.proofs.Walks.{space, turn-in, end-in}
 use Rattle.tape.proofs.Counts.{counted-none, counted-here, counted-not, counted-all}
 use Rattle.tape.proofs.walk.count_in.Needs as need
 use Rattle.tape.proofs.walk.count_in.Needs.{then-head-container, else-head-container}
@@ -10,11 +10,11 @@ pub loop-i-holds : need.loop-i-holds
 loop-i-holds c = counted-none _ _ _ _ (c .pre)
 
 pub head-at-head-requires : need.head-at-head-requires
-head-at-head-requires c κs = room _ _ _ _ _ (c .loop-i .inv .on) (turn-in _ _ _ _ (c .loop-i-test .taken))
+head-at-head-requires c κs = space _ _ _ _ _ (c .loop-i .inv .on) (turn-in _ _ _ _ (c .loop-i-test .taken))
 
 pub add-payload : need.add-payload
 add-payload c =
-    let r = room _ _ _ _ _ (c .loop-i .inv .on) (turn-in _ _ _ _ (c .loop-i-test .taken)) in
+    let r = space _ _ _ _ _ (c .loop-i .inv .on) (turn-in _ _ _ _ (c .loop-i-test .taken)) in
     let s = c .loop-i .inv .small in
     let l = c .head-at-head .ensures .len in
     omega arith

@@ -3,7 +3,7 @@ use Prim.Native.Nat.{_+_}
 use native.Mathlib.Omega.{arith}
 use lib.ListN.{drop}
 use Rattle.tape.specs.Log.{lengthAt}
-use Rattle.tape.proofs.Walks.{room, turn-in, end-in}
+use Rattle.tape.proofs.Walks.{space, turn-in, end-in}
 use Rattle.tape.proofs.Seeks.{looked-none, looked-here, looked-more, looked-not, looked-all, stored-same}
 use Rattle.tape.proofs.walk.first_in.Needs as need
 use Rattle.tape.proofs.walk.first_in.Needs.{then-head-container·else-same, else-head-container}
@@ -12,10 +12,10 @@ pub loop-i-holds : need.loop-i-holds
 loop-i-holds g c = looked-none _ _ _ _ _ (c .pre)
 
 pub head-at-head-requires : need.head-at-head-requires
-head-at-head-requires g c κs = let r = room _ _ _ _ _ (c .loop-i .inv .on) (turn-in _ _ _ _ (c .loop-i-test .taken)) in let w = c .width-width .ensures in omega arith
+head-at-head-requires g c κs = let r = space _ _ _ _ _ (c .loop-i .inv .on) (turn-in _ _ _ _ (c .loop-i-test .taken)) in let w = c .width-width .ensures in omega arith
 
 pub fingerprint-at-stored-requires : need.fingerprint-at-stored-requires
-fingerprint-at-stored-requires g c κs = let r = room _ _ _ _ _ (c .loop-i .inv .on) (turn-in _ _ _ _ (c .loop-i-test .taken)) in omega arith
+fingerprint-at-stored-requires g c κs = let r = space _ _ _ _ _ (c .loop-i .inv .on) (turn-in _ _ _ _ (c .loop-i-test .taken)) in omega arith
 
 pub returns-then-same : need.returns-then-same
 returns-then-same g c =

@@ -1,5 +1,5 @@
 use mathlib.Core.Path.{sym, _∙_}
-use Rattle.tape.proofs.Walks.{room, turn-in, end-in}
+use Rattle.tape.proofs.Walks.{space, turn-in, end-in}
 use Rattle.tape.proofs.Seeks.{sought-none, sought-here, sought-more, sought-not, sought-all}
 use Rattle.tape.proofs.walk.seek.Needs as need
 use Rattle.tape.proofs.walk.seek.Needs.{then-head-place·else-seen-place, else-head-place}
@@ -8,7 +8,7 @@ pub loop-i-holds : need.loop-i-holds
 loop-i-holds c = sought-none _ _ _ _ _ (c .pre)
 
 pub head-at-head-requires : need.head-at-head-requires
-head-at-head-requires c κs = room _ _ _ _ _ (c .loop-i .inv .on) (turn-in _ _ _ _ (c .loop-i-test .taken))
+head-at-head-requires c κs = space _ _ _ _ _ (c .loop-i .inv .on) (turn-in _ _ _ _ (c .loop-i-test .taken))
 
 pub returns-then-seen-place : need.returns-then-seen-place
 returns-then-seen-place c =

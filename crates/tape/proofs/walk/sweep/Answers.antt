@@ -1,6 +1,6 @@
 use mathlib.Core.Path.{sym, _∙_}
 use native.Mathlib.Omega.{arith}
-use Rattle.tape.proofs.Walks.{room, turn-in, end-in}
+use Rattle.tape.proofs.Walks.{space, turn-in, end-in}
 use Rattle.tape.proofs.Sweeps.{swept-none, swept-gone, swept-kept, swept-all}
 use Rattle.tape.proofs.walk.sweep.Needs as need
 use Rattle.tape.proofs.walk.sweep.Needs.{then-head-container, else-head-container}
@@ -9,11 +9,11 @@ pub loop-i-holds : need.loop-i-holds
 loop-i-holds c = swept-none _ _ _ _ (c .pre)
 
 pub head-at-head-requires : need.head-at-head-requires
-head-at-head-requires c κs = room _ _ _ _ _ (c .loop-i .inv .on) (turn-in _ _ _ _ (c .loop-i-test .taken))
+head-at-head-requires c κs = space _ _ _ _ _ (c .loop-i .inv .on) (turn-in _ _ _ _ (c .loop-i-test .taken))
 
 pub copy-within-requires : need.copy-within-requires
 copy-within-requires c κs =
-    let r = room _ _ _ _ _ (c .loop-i .inv .on) (turn-in _ _ _ _ (c .loop-i-test .taken)) in
+    let r = space _ _ _ _ _ (c .loop-i .inv .on) (turn-in _ _ _ _ (c .loop-i-test .taken)) in
     let n = c .head-at-head .ensures .next in
     let b = c .loop-i .inv .behind in
     record { forward = omega arith; within = omega arith; fits = omega arith; fresh = tt }

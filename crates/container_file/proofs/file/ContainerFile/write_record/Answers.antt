@@ -49,7 +49,7 @@ known g c =
       counted = count;
       summed = used ∙ sym (length-payloads rs);
       one = (let t = c .pre .count in omega arith);
-      room = (let t = c .pre .fits in omega arith);
+      space = (let t = c .pre .fits in omega arith);
       new = record { typed = record { wide = c .pre .wide; fingerprint = fb; payload = pb }; level = c .pre .level; some = c .pre .some; few = c .pre .few };
       placed = refl;
       tailed = c .entry-tail-tail .ensures;

@@ -9,7 +9,7 @@ use Rattle.devices.specs.Changes.{appended}
 use Rattle.tape.specs.Log.{Entry, Sound}
 use Rattle.tape.specs.Meaning.{heldAt, heldBy}
 use Rattle.tape.specs.Sizes.{Good}
-use Rattle.tape.proofs.Seen.{push-small, push-room, push-few, pushed, refill}
+use Rattle.tape.proofs.Seen.{push-small, push-space, push-few, pushed, refill}
 use Rattle.tape.proofs.tape.Tape.push.Given as given
 use Rattle.tape.proofs.tape.Tape.push.Needs as need
 use Rattle.tape.proofs.tape.Tape.push.Needs.{After-deref-mut, After-width}
@@ -27,17 +27,17 @@ sound g c = record {
   few = c .pre .short;
 }
 
-room : (g : given.Over) (c : need.After-deref-mut g) → c .args .self .now .used + (g .F·Key .width + 4 + length (c .args .payload .now)) ≤ length (vec-items (c .args .self .now .bytes))
-room g c = push-room _ _ _ _ _ _ (c .args .self .now .good) (entry g c) (c .pre .here) (sound g c) (c .pre .one) (c .pre .all)
+space : (g : given.Over) (c : need.After-deref-mut g) → c .args .self .now .used + (g .F·Key .width + 4 + length (c .args .payload .now)) ≤ length (vec-items (c .args .self .now .bytes))
+space g c = push-space _ _ _ _ _ _ (c .args .self .now .good) (entry g c) (c .pre .here) (sound g c) (c .pre .one) (c .pre .all)
 
 pub cast-container : need.cast-container
 cast-container g c = let small = push-small _ _ _ _ _ _ (c .args .self .now .good) (entry g c) (c .pre .here) (sound g c) (c .pre .one) (c .pre .all) in omega arith
 
 pub add-entry-requires : need.add-entry-requires
 add-entry-requires g c κs =
-    let r = room g c in
+    let r = space g c in
     let l = ap length (c .deref-mut .ensures .value) in
-    record { room = omega arith; short = c .pre .short }
+    record { space = omega arith; short = c .pre .short }
 
 pub add-self : need.add-self
 add-self g c =
@@ -50,7 +50,7 @@ add-self g c =
 
 pub add-self-4 : need.add-self-4
 add-self-4 g c =
-    let r = room g (need.at·ghost-self g c .After-deref-mut) in
+    let r = space g (need.at·ghost-self g c .After-deref-mut) in
     let w = c .width .ensures in
     let l = c .args .self .now .bytes .ok in
     let s = c .args .self .now .bytes .small in

@@ -1,4 +1,4 @@
--- The survivors of one container always find room where one container is free.
+-- The survivors of one container always find space where one container is free.
 use mathlib.Core.Path.{_≡_, refl, sym, ap, _∙_, subst}
 use mathlib.Core.Bool.{Bool, true, false}
 use mathlib.Core.Logic.{_⊎_, inl, inr, ⊎-elim}
@@ -90,8 +90,8 @@ every-one (r ∷ rs) s m n low ready =
     let more = every-one rs (o .0) (omega arith) (omega (arith)) (o .3) (o .2) in
     (more .0, (o .0, o .1, more .1))
 
-pub room : (s : Filling) (rs : List Rec) (f : ℕ) → length rs ≤ 63 → payloadBytes rs ≤ 7168 → ((o : ℕ) → s .current ≡ Some o → o < length (s .contents)) → Free (s .contents) f → (t : Filling) × SettledAll s rs t
-room s rs f m n low free = every-one rs s m n low (inl (f, free))
+pub space : (s : Filling) (rs : List Rec) (f : ℕ) → length rs ≤ 63 → payloadBytes rs ≤ 7168 → ((o : ℕ) → s .current ≡ Some o → o < length (s .contents)) → Free (s .contents) f → (t : Filling) × SettledAll s rs t
+space s rs f m n low free = every-one rs s m n low (inl (f, free))
 
 -- what is settled goes to other containers than one that is neither free nor open
 abbrev Apart : ℕ → Filling → Type 0
@@ -116,5 +116,5 @@ all-placed c (r ∷ rs) s t h a =
 -- a container that is neither free nor open can always be cleared where another is free
 pub can-clear : (s : Filling) (c f : ℕ) (vs : List Bool) → length (spared vs (getD (s .contents) c [])) ≤ 63 → payloadBytes (spared vs (getD (s .contents) c [])) ≤ 7168 → Apart c s → Free (s .contents) f → (t : Filling) × SettledAll s (spared vs (getD (s .contents) c [])) t × Cleared (s .contents) c vs (set (t .contents) c [])
 can-clear s c f vs m n a free =
-    let x = room s (spared vs (getD (s .contents) c [])) f m n (a .0) free in
+    let x = space s (spared vs (getD (s .contents) c [])) f m n (a .0) free in
     (x .0, x .1, (x .0 .contents, all-placed c (spared vs (getD (s .contents) c [])) s (x .0) (x .1) a, refl))
