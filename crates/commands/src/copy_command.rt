@@ -1,4 +1,11 @@
 // girvoupa copy FROM TO: a container file copied record by record, by way of a tape, into one laid out afresh.
+ghost use mathlib.Core.List.{[]};
+ghost use mathlib.Core.Path.{_≡_};
+ghost use lib.ListN.{replicate, take};
+ghost use Rattle.std.specs.Options.{Cases as BySome};
+ghost use Rattle.std.specs.Vec.{made};
+ghost use Rattle.container_file.specs.Meaning.{contentsOf};
+ghost use Rattle.tape.specs.Meaning.{heldBy};
 use container_file::ContainerFile;
 use container_file::FileDevice;
 use container_format::container_size;
@@ -34,7 +41,9 @@ pub impl From<Refusal> for Fault as FaultFromRefusal {
 }
 
 // A tape of free containers.
-fn fresh_tape<F: Fingerprint>(heap: Global, count: usize) -> Result<Tape<F>, Fault> {
+fn fresh_tape<F: Fingerprint>(heap: Global, count: usize) -> Result<Tape<F>, Fault>
+    ensures { λ r. ⌜ made r (λ t. heldBy (F·Key .width) t ≡ replicate count []) ⌝ }
+{
     let Some(size) = tape_size::<F>(count) else {
         return Err(Fault::Refused(Refusal::of(Cause::Size)));
     };
@@ -45,7 +54,9 @@ fn fresh_tape<F: Fingerprint>(heap: Global, count: usize) -> Result<Tape<F>, Fau
 }
 
 // A file of free containers.
-fn fresh_file<F: Fingerprint>(heap: Global, count: usize) -> Result<ContainerFile<F>, Fault> {
+fn fresh_file<F: Fingerprint>(heap: Global, count: usize) -> Result<ContainerFile<F>, Fault>
+    ensures { λ r. ⌜ made r (λ s. contentsOf (F·Key .width) s ≡ replicate count []) ⌝ }
+{
     let size = container_size::<F>().saturating_mul(count);
     match ContainerFile::lay_out(vec![in heap; 0u8; size]?, count) {
         Ok(file) => Ok(file),
@@ -53,11 +64,13 @@ fn fresh_file<F: Fingerprint>(heap: Global, count: usize) -> Result<ContainerFil
     }
 }
 
-// The copy of a file, by way of a tape.
+// The copy of a file, by way of a tape: it holds what the file holds.
 pub fn copy_file<F: Fingerprint>(
     heap: Global,
     file: &ContainerFile<F>,
-) -> Result<ContainerFile<F>, Fault> {
+) -> Result<ContainerFile<F>, Fault>
+    ensures { λ r. ⌜ made r (λ s. contentsOf (F·Key .width) s ≡ contentsOf (F·Key .width) (now (file .entry))) ⌝ }
+{
     let count = file.count();
     let mut between = fresh_tape::<F>(heap, count)?;
     let mut copy = fresh_file::<F>(heap, count)?;
@@ -78,16 +91,19 @@ fn totals<D: Device>(device: &D) -> (usize, usize) {
 }
 
 // The first place at which two rows of bytes differ, if they do.
-fn difference(first: &[u8], second: &[u8]) -> Option<usize> {
-    for (i, (x, y)) in first.iter().zip(second.iter()).enumerate() {
-        if *x != *y {
-            return Some(i);
+fn difference(first: &[u8], second: &[u8]) -> Option<usize>
+    ensures { λ r. ⌜ BySome r (now (first .entry) ≡ now (second .entry)) (λ at. (take at (now (first .entry)) ≡ take at (now (second .entry))) × (now (first .entry) ≡ now (second .entry) → ⊥)) ⌝ }
+{
+    let shorter = first.len().min(second.len());
+    for at in 0..shorter {
+        if first[at] != second[at] {
+            return Some(at);
         }
     }
     if first.len() == second.len() {
         None
     } else {
-        Some(first.len().min(second.len()))
+        Some(shorter)
     }
 }
 

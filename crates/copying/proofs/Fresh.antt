@@ -16,7 +16,7 @@ use Rattle.devices.proofs.Appends.{Takes, append-taken}
 use Rattle.devices.specs.Questions.{recordsOf}
 use Rattle.copying.specs.Copies.{withMore, stacked, StoppedAt, MovedAll}
 
-stacked-free : (cs : Contents) → stacked (replicate (length cs) []) cs ≡ cs
+pub stacked-free : (cs : Contents) → stacked (replicate (length cs) []) cs ≡ cs
 stacked-free [] = refl
 stacked-free (c ∷ cs) = ap (λ xs. c ∷ xs) (stacked-free cs)
 
