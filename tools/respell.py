@@ -281,7 +281,6 @@ keys-take keys_take
 laid-is laid_is
 laidBefore laid_before
 layout-refused layout_refused
-le-leb le_leb
 lead-end lead_end
 lead-sheet lead_sheet
 lead-strip lead_strip

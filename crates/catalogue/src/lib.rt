@@ -1,4 +1,6 @@
 // The catalogue of sheets: which trees are kept, under which names, and how many readings of each are out.
+#![tactic(auto)]
+
 pub mod entries;
 pub mod name;
 mod search;

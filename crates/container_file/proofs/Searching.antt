@@ -1,7 +1,7 @@
 -- What is found at a place of a file, by its answers.
 use Rattle.std.proofs.Common.{◌≡◌, ℕ, ◌+◌, ◌<◌, ◌≤◌, cond, ltb, leb, ◌⊎◌, List, length, take, drop, Some, None, Ok, Err, Option, ap, ◌∙◌, inl, inr, ⊎_elim, arith}
 use Rattle.std.proofs.lemmas.List.{length-drop}
-use Rattle.std.proofs.lemmas.Bool.{le-ltb, le_leb, cases_lt}
+use Rattle.std.proofs.lemmas.Bool.{le-ltb, le-leb, cases_lt}
 use Rattle.std.specs.Result.{result_ok}
 use Rattle.keys.specs.Octets.{Bytes}
 use Rattle.records.specs.Records.{Rec, Contents}
@@ -15,7 +15,7 @@ use Rattle.devices.specs.Questions.{Held, records_of, record_at, of_record}
 pub read_front : {K : Type 0} (key : List ℕ → K) (w at : ℕ) (bs rest : List ℕ) (r : Option K) → at + w ≤ length bs → rest ≡ drop at bs → r ≡ cond (leb w (length rest)) (Some (key (take w rest))) None → r ≡ Some (key (take w (drop at bs)))
 read_front key w at bs rest r space is e =
     let l : w ≤ length (drop at bs) = simp length-drop (omega arith) in
-    e ∙ ap (λ xs. cond (leb w (length xs)) (Some (key (take w xs))) None) is ∙ ap (λ b. cond b (Some (key (take w (drop at bs)))) None) (le_leb w (length (drop at bs)) l)
+    e ∙ ap (λ xs. cond (leb w (length xs)) (Some (key (take w xs))) None) is ∙ ap (λ b. cond b (Some (key (take w (drop at bs)))) None) (le-leb w (length (drop at bs)) l)
 
 -- whether there is a record, by whether an answer about it came
 pub there_or_not : {X : Type 0} (f : Rec → X) (cs : Contents) (p : Place) → ((p.index < length (records_of cs p.container)) × (result_ok (of_record f cs p) ≡ Some (f (record_at cs p)))) ⊎ ((length (records_of cs p.container) ≤ p.index) × (result_ok (of_record f cs p) ≡ None))

@@ -1,4 +1,6 @@
 // The container file as a device: a stranger's bytes, checked once and then asked and changed in place.
+#![tactic(auto)]
+
 pub mod changes;
 pub mod device;
 pub mod file;

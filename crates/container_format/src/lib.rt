@@ -1,4 +1,6 @@
 // The container file's format: its sizes, and the check of a stranger's bytes.
+#![tactic(auto)]
+
 pub mod acceptance;
 pub mod numbers;
 pub mod sizes;

@@ -1,4 +1,6 @@
 // Turns bytes of a container file as the lines of its input say, and prints what the check answers to each.
+#![tactic(auto)]
+
 use anyhow::anyhow;
 use container_format::check;
 use keys::{Fingerprint, Fnv, Key};

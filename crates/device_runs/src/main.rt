@@ -1,4 +1,6 @@
 // Sends the same questions and changes to container files and tapes of two kinds, and prints what they answer.
+#![tactic(auto)]
+
 use anyhow::anyhow;
 use container_file::ContainerFile;
 use container_format::container_size;

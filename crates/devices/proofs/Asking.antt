@@ -1,6 +1,6 @@
 -- What a device answers about records that it has.
 use Rattle.std.proofs.Common.{◌≡◌, ℕ, ◌<◌, cond, List, length, Ok, Err, Result, ap, ◌∙◌}
-use Rattle.std.proofs.lemmas.Bool.{lt-ltb, le_leb}
+use Rattle.std.proofs.lemmas.Bool.{lt-ltb, le-leb}
 use Rattle.records.specs.Records.{Contents}
 use Rattle.records.specs.Refusals.{untold}
 use Rattle.records.specs.declared.refusal.Cause.TheVariants.{NoSuchPlace, TooShort}
@@ -22,7 +22,7 @@ pub payload_told : (w : ℕ) (cs : Contents) (p : Place) → Held w cs → p.ind
 payload_told w cs p h inside =
     let n = length (record_at cs p).payload in
     (λ i. cond (lt-ltb p.index (length (records_of cs p.container)) inside i) (fitting n 7168) (Err (untold NoSuchPlace)))
-    ∙ ap (λ b. cond b (Ok n) (Err (untold TooShort))) (le_leb n 7168 (small_payload w cs p h inside))
+    ∙ ap (λ b. cond b (Ok n) (Err (untold TooShort))) (le-leb n 7168 (small_payload w cs p h inside))
 
 -- a device tells a fingerprint by the key that has its bytes
 pub name_told : {K : Type 0} (bytes : K → List ℕ) (key : List ℕ → K) (w : ℕ) → ((bs : List ℕ) → length bs ≡ w → Bytes bs → bytes (key bs) ≡ bs) → (cs : Contents) (p : Place) → Held w cs → p.index < length (records_of cs p.container) → (k : K) → Ok k ≡ of_record (λ x. key x.fingerprint) cs p → bytes k ≡ (record_at cs p).fingerprint

@@ -4,7 +4,7 @@ use Rattle.std.proofs.Common.{sym, ap, ◌∙◌, mod-eq_of_lt, arith}
 use mathlib.Core.HLevel.{×_prop, is_prop→PathP}
 use Rattle.std.proofs.Math.Bridge.{le_prop}
 use Rattle.std.proofs.lemmas.List.{take_at}
-use Rattle.std.proofs.lemmas.Bool.{le_leb}
+use Rattle.std.proofs.lemmas.Bool.{le-leb}
 use Rattle.keys.specs.Octets.{number}
 use Rattle.keys.specs.Encodings.{pair_of, fnv_of, fnv_numbered}
 use Rattle.keys.specs.declared.pair.Pair.{Pair}
@@ -29,7 +29,7 @@ pub fnv_numbered_lem : (f : Fnv) (n : ℕ) → f.number ≡ n → f ≡ fnv_numb
 fnv_numbered_lem f n e = fnv_path f (fnv_numbered n) (sym (mod-eq_of_lt f.fits) ∙ ap (λ m. m % 2 ^ 64) e)
 
 enough : {X : Type 0} (xs : List ℕ) (w : ℕ) (v : X) → w ≤ length xs → Some v ≡ cond (nat_le w (length xs)) (Some v) None
-enough xs w v h = sym (ap (λ c. cond c (Some v) None) (le_leb w (length xs) h))
+enough xs w v h = sym (ap (λ c. cond c (Some v) None) (le-leb w (length xs) h))
 
 pub pair_read : (xs : List ℕ) (p : Pair) → 2 ≤ length xs → p.level ≡ slice_index xs 0 → p.container ≡ slice_index xs 1 → Some p ≡ cond (nat_le 2 (length xs)) (Some (pair_of (take 2 xs))) None
 pair_read [] p h e f = absurd (omega arith)
@@ -59,4 +59,4 @@ fnv_read xs f h e = ap Some (fnv_numbered_lem f (number (take 8 xs)) (e ∙ sym 
 -- a key that fits stands at the front of what it was written to
 pub front-written : (w : ℕ) (fits : Bool) (bytes to after : List ℕ) → length bytes ≡ w → w ≤ length to → fits ≡ nat_le w (length to) → after ≡ cond fits (bytes ++ drop w to) to → take w after ≡ bytes
 front-written w fits bytes to after long space e a =
-    ap (take w) (a ∙ ap (λ b. cond b (bytes ++ drop w to) to) (e ∙ le_leb w (length to) space)) ∙ take_at bytes (drop w to) w long
+    ap (take w) (a ∙ ap (λ b. cond b (bytes ++ drop w to) to) (e ∙ le-leb w (length to) space)) ∙ take_at bytes (drop w to) w long

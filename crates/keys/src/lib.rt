@@ -1,4 +1,6 @@
 // Keys: names of a fixed width that are equal exactly when their bytes are.
+#![tactic(auto)]
+
 pub mod fingerprint;
 pub mod fnv;
 pub mod hash;

@@ -1,4 +1,6 @@
 // Rows of bytes.
+#![tactic(auto)]
+
 pub mod compare;
 
 pub use compare::same_bytes;

@@ -3,7 +3,7 @@ use Rattle.std.specs.Prelude.{◌≡◌, ℕ, ◌%◌, ◌<◌, ◌≤◌, cond,
 use Rattle.std.proofs.Common.{sym, ap, ◌∙◌, mod-eq_of_lt, arith}
 use mathlib.Core.HLevel.{is_prop→PathP}
 use Rattle.std.proofs.Math.Bridge.{le_prop}
-use Rattle.std.proofs.lemmas.Bool.{le_leb}
+use Rattle.std.proofs.lemmas.Bool.{le-leb}
 use Rattle.one_byte.specs.Low.{low_numbered, low_of}
 use Rattle.one_byte.specs.declared.byte.OneByte.{OneByte}
 
@@ -20,4 +20,4 @@ pub low_read : (xs : List ℕ) (b : OneByte) → 1 ≤ length xs → b.value ≡
 low_read [] b h e = absurd (omega arith)
 low_read (x ∷ xs) b h e =
     ap Some (sym (low_value b) ∙ ap low_numbered e)
-    ∙ sym (ap (λ c. cond c (Some (low_numbered x)) None) (le_leb 1 (length (x ∷ xs)) h))
+    ∙ sym (ap (λ c. cond c (Some (low_numbered x)) None) (le-leb 1 (length (x ∷ xs)) h))

@@ -1,6 +1,6 @@
 -- The choice keeps its rule.
 use Rattle.std.proofs.Common.{◌≡◌, ℕ, ◌+◌, ◌<◌, true, ◌&&◌, ltb, leb, length, Some, None, Option, sym, refl, ap, ◌∙◌, subst, arith}
-use Rattle.std.proofs.lemmas.Bool.{ltb-true, leb-true, leb-false, lt-ltb, le_leb, and_parts, and_from, both_ways, cond_both, cond-true}
+use Rattle.std.proofs.lemmas.Bool.{ltb-true, leb-true, leb-false, lt-ltb, le-leb, and_parts, and_from, both_ways, cond_both, cond-true}
 use Rattle.records.specs.Records.{Contents, payload_bytes}
 use Rattle.devices.specs.Questions.{records_of}
 use Rattle.placing.specs.Openings.{free_count, next_free}
@@ -18,7 +18,7 @@ space_true cs c len e =
     record { here = ltb-true _ _ p.0; count = ltb-true _ _ q.0; bytes = leb-true _ _ q.1 }
 
 true_space : (cs : Contents) (c len : ℕ) → Space cs c len → has_space cs c len ≡ true
-true_space cs c len h = and_from _ _ (lt-ltb _ _ h.here) (and_from _ _ (lt-ltb _ _ h.count) (le_leb _ _ h.bytes))
+true_space cs c len h = and_from _ _ (lt-ltb _ _ h.here) (and_from _ _ (lt-ltb _ _ h.count) (le-leb _ _ h.bytes))
 
 -- where more than spare are free, the search finds one
 found_rule : (cs : Contents) (o : Option ℕ) (last spare len : ℕ) (n : Option ℕ) → Full cs o len → spare < free_count cs → FoundRound cs last n → Rule cs o last spare len (to_open n)

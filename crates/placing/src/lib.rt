@@ -1,4 +1,6 @@
 // Placing: which container a new record goes into, and putting it there.
+#![tactic(auto)]
+
 pub mod choosing;
 pub mod filling;
 pub mod free;

@@ -1,4 +1,6 @@
 // Presence: whether a record is stored already.
+#![tactic(auto)]
+
 pub mod present;
 pub mod storing;
 

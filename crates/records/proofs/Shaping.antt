@@ -2,7 +2,7 @@
 use Rattle.std.proofs.Common.{◌≡◌, ℕ, zero, suc, ◌*◌, ◌/◌, ◌%◌, ◌≤◌, true, leb, ap, ◌∙◌, subst, mul-le-mul_right, le_of_mul-le-mul_right, arith}
 use native.Mathlib.Nat.{mul-mod_left}
 use Rattle.std.proofs.lemmas.Nat.{div-add-mod'}
-use Rattle.std.proofs.lemmas.Bool.{and_parts, and_from, leb-true, le_leb, eqb-true, eq-eqb}
+use Rattle.std.proofs.lemmas.Bool.{and_parts, and_from, leb-true, le-leb, eqb-true, eq-eqb}
 use Rattle.records.specs.Shapes.{Shape, strip, node, shaped}
 
 -- the quotient of a multiple of w between w and 64 w lies between 1 and 64
@@ -24,10 +24,10 @@ shape_from w (suc l) bytes h e =
     node (omega arith) (leb-true (suc l) 6 p.0) (bytes / w) few.0 few.1 d
 
 pub shaped_from : (w level bytes : ℕ) → 1 ≤ w → Shape w level bytes → shaped w level bytes ≡ true
-shaped_from w level bytes h (strip lo hi) = and_from _ _ (le_leb 1 bytes lo) (le_leb bytes 1024 hi)
+shaped_from w level bytes h (strip lo hi) = and_from _ _ (le-leb 1 bytes lo) (le-leb bytes 1024 hi)
 shaped_from w zero bytes h (node lo hi k some few e) = absurd (omega arith)
 shaped_from w (suc l) bytes h (node lo hi k some few e) =
     let a : 1 * w ≤ k * w = mul-le-mul_right w some in
     let b : k * w ≤ 64 * w = mul-le-mul_right w few in
     let z : bytes % w ≡ 0 = ap (λ n. n % w) e ∙ mul-mod_left k w in
-    and_from _ _ (le_leb (suc l) 6 hi) (and_from _ _ (le_leb w bytes (omega arith)) (and_from _ _ (le_leb bytes (64 * w) (omega arith)) (eq-eqb (bytes % w) 0 z)))
+    and_from _ _ (le-leb (suc l) 6 hi) (and_from _ _ (le-leb w bytes (omega arith)) (and_from _ _ (le-leb bytes (64 * w) (omega arith)) (eq-eqb (bytes % w) 0 z)))

@@ -1,4 +1,6 @@
 // Records: what lies in a container, the shapes and limits it must keep, and every refusal there is.
+#![tactic(auto)]
+
 pub mod refusal;
 pub mod shape;
 

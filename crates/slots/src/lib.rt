@@ -1,4 +1,6 @@
 // The slot table: open addressing over slots that the caller owns, for any kind of key.
+#![tactic(auto)]
+
 pub mod marking;
 pub mod probe;
 pub mod slot;

@@ -1,4 +1,6 @@
 // The store: records go in once, sheets are kept by name, and readings walk a sheet's text strip by strip.
+#![tactic(auto)]
+
 pub mod admitting;
 pub mod keeping;
 pub mod putting;

@@ -4,7 +4,7 @@ use Rattle.std.proofs.Common.{sym, ap, subst, ◌∙◌, arith}
 use borrow.Rule.Slice.PartMut.{put_mid}
 use Rattle.std.specs.List.{AllByRecursion as All}
 use Rattle.std.proofs.lemmas.List.{append_assoc, append-nil, take_at, drop_at, drop-drop, drop_all, take_rest, length-append, length-drop}
-use Rattle.std.proofs.lemmas.Bool.{le_leb}
+use Rattle.std.proofs.lemmas.Bool.{le-leb}
 use Rattle.keys.specs.Octets.{little}
 use Rattle.keys.specs.Little.{number-little}
 use Rattle.tape.specs.Log.{Entry, Sound, Logged, laid_before, log_before, entry_size, log_size, length_at, entry_of, log_of}
@@ -137,7 +137,7 @@ entry-written w a e to t x z fits wide place space head fit wrote copied =
     let lr : length R ≡ length to - 4 = length-drop 4 to in
     let lt : length t ≡ 4 + length R = ap length head ∙ omega arith in
     let yr : y ≡ R = take_rest t 4 ∙ ap (drop 4) head in
-    let fy : fits ≡ true = fit ∙ le_leb w (length y) (let k = ap length yr in omega arith) in
+    let fy : fits ≡ true = fit ∙ le-leb w (length y) (let k = ap length yr in omega arith) in
     let xr : x ≡ fp ++ drop w R = wrote ∙ ap (λ b. cond b (fp ++ drop w y) y) fy ∙ ap (λ q. fp ++ drop w q) yr in
     let A : List ℕ = e.container ∷ e.stored.level ∷ (little 2 (length pay) ++ fp) in
     let la : length A ≡ a = omega arith in
@@ -156,7 +156,7 @@ key_read key w at bs k space told =
     let from : List ℕ = take (length bs - at) (drop at bs) in
     let whole : from ≡ drop at bs = take_rest bs at in
     let l : length from ≡ length bs - at = ap length whole ∙ length-drop at bs in
-    let enough : leb w (length from) ≡ true = le_leb w (length from) (omega arith) in
+    let enough : leb w (length from) ≡ true = le-leb w (length from) (omega arith) in
     let is : Some k ≡ Some (key (take w from)) = told ∙ ap (λ b. cond b (Some (key (take w from))) None) enough in
     let same : k ≡ key (take w from) = cc in
     same ∙ ap (λ x. key (take w x)) whole

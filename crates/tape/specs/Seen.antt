@@ -1,7 +1,7 @@
 -- What a tape holds, as its kind of fingerprint sees it.
 use Rattle.std.specs.Prelude.{◌≡◌, ℕ, ◌+◌, ◌-◌, ◌<◌, ◌≤◌, Bool, true, false, cond, List, [], ◌++◌, length, take, drop, is_ok, Some, None, Ok, Err, Result, Vec, ◌==◌, ◌≢◌, nat_le, slice_index_or, refl}
 use Rattle.std.proofs.Common.{sym, ap, subst, ◌∙◌, ⊎_elim, arith}
-use Rattle.std.proofs.lemmas.Bool.{eq-eqb, ne_eqb, cases_eq, and_parts, leb-true, le_leb, lt-leb, cond_below}
+use Rattle.std.proofs.lemmas.Bool.{eq-eqb, ne_eqb, cases_eq, and_parts, leb-true, le-leb, lt-leb, cond_below}
 use Rattle.std.specs.Vec.{with_items}
 use Rattle.std.proofs.lemmas.List.{drop-drop, get_or_past, length-drop, length-take-le, with_items_is}
 use Rattle.records.specs.Records.{Rec, Contents, no_record, payload_bytes}
@@ -161,7 +161,7 @@ module _ (cs : Contents) (p : Place) (to : List ℕ) (here : p.index < length (r
   buffer_by r e = ap (λ x. cond (is_ok x) ((record_at cs p).payload ++ drop (length (record_at cs p).payload) to) to) e
 
   pub payload_fits : n ≤ length to → Ok n ≡ payload_answer cs p (length to)
-  payload_fits h = sym (payload_of_lem ∙ ap (λ b. cond b (Ok n) (Err (untold TooShort))) (le_leb n (length to) h))
+  payload_fits h = sym (payload_of_lem ∙ ap (λ b. cond b (Ok n) (Err (untold TooShort))) (le-leb n (length to) h))
 
   pub payload_long : (e : Refusal) → e ≡ untold TooShort → length to < n → Err e ≡ payload_answer cs p (length to)
   payload_long e is h = ap Err is ∙ sym (payload_of_lem ∙ ap (λ b. cond b (Ok n) (Err (untold TooShort))) (lt-leb n (length to) h))

@@ -1,4 +1,6 @@
 // A tape: a device that keeps all records in one log, in the order of their arrival.
+#![tactic(auto)]
+
 mod access;
 mod device;
 mod layout;

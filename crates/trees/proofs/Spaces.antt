@@ -1,7 +1,7 @@
 -- The survivors of one container always find space where one container is free.
 use Rattle.std.proofs.Common.{◌≡◌, ℕ, ◌+◌, ◌<◌, ◌≤◌, Bool, true, false, ltb, leb, ◌⊎◌, List, [], ◌∷◌, ◌++◌, length, get_or, set, Some, None, Option, sym, refl, ap, ◌∙◌, subst, inl, inr, ⊎_elim, arith}
 use Rattle.std.proofs.lemmas.List.{get_or-set_same, get_or-set_other, length_push, length-set}
-use Rattle.std.proofs.lemmas.Bool.{and_from, cases_Bool, cases_eq, lt-ltb, le_leb}
+use Rattle.std.proofs.lemmas.Bool.{and_from, cases_Bool, cases_eq, lt-ltb, le-leb}
 use Rattle.devices.specs.Changes.{appended, takes}
 use Rattle.records.specs.Records.{Rec, Contents, payload_bytes}
 use Rattle.trees.specs.Chains.{Chain}
@@ -14,7 +14,7 @@ abbrev Ready : Filling → List Rec → Type 0
 Ready s rs = ((f : ℕ) × Free s.contents f) ⊎ ((o : ℕ) × (s.current ≡ Some o) × (o < length s.contents) × (length (get_or s.contents o []) + length rs ≤ 63) × (payload_bytes (get_or s.contents o []) + payload_bytes rs ≤ 7168))
 
 fits_in : (b : List Rec) (r : Rec) → length b < 63 → payload_bytes b + length r.payload ≤ 7168 → takes b r ≡ true
-fits_in b r l m = and_from (ltb (length b) 63) (leb (payload_bytes b + length r.payload) 7168) (lt-ltb (length b) 63 l) (le_leb (payload_bytes b + length r.payload) 7168 m)
+fits_in b r l m = and_from (ltb (length b) 63) (leb (payload_bytes b + length r.payload) 7168) (lt-ltb (length b) 63 l) (le-leb (payload_bytes b + length r.payload) 7168 m)
 
 payload_push : (b : List Rec) (r : Rec) → payload_bytes (b ++ (r ∷ [])) ≡ payload_bytes b + length r.payload
 payload_push [] r = omega arith

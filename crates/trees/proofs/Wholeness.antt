@@ -1,6 +1,6 @@
 -- Wholeness as it is computed, and as it is meant.
 use Rattle.std.proofs.Common.{◌≡◌, ℕ, zero, suc, ◌≤◌, Bool, true, leb, ◌⊎◌, ◌↔◌, List, [], ◌∷◌, Some, None, Option, sym, refl, ap, ◌∙◌, subst, inl, inr, ⊎_elim, arith}
-use Rattle.std.proofs.lemmas.Bool.{and_parts, and_from, eqb-true, eq-eqb, leb-true, le_leb}
+use Rattle.std.proofs.lemmas.Bool.{and_parts, and_from, eqb-true, eq-eqb, leb-true, le-leb}
 use Rattle.records.specs.Records.{Rec, Contents}
 use Rattle.trees.specs.Holding.{In, record_of}
 use Rattle.trees.specs.Trees.{cut, Reaches, Whole, level_of, payload_of, children, stands, every, whole_at, is_whole}
@@ -73,5 +73,5 @@ module _ (w : ℕ) (cs : Contents) where
         let t = whole.top in
         let n : ℕ = level_of (record_of cs root) in
         let l : t.0.level ≡ n = sym (ap level_of t.1) in
-        and_from (leb 1 n) (whole_at w cs n root) (le_leb 1 n (omega (arith, t.2))) (computed_at root whole n root t.0 itself t.1 l),
+        and_from (leb 1 n) (whole_at w cs n root) (le-leb 1 n (omega (arith, t.2))) (computed_at root whole n root t.0 itself t.1 l),
   )

@@ -1,4 +1,6 @@
 // The published vectors of FNV-1a with 64 bits, each hashed and compared.
+#![tactic(auto)]
+
 use keys::hash::hash_of;
 use std::io;
 

@@ -1,7 +1,7 @@
 -- In a whole tree of shaped records the cursor's places are those of the text's strips.
 use Rattle.std.proofs.Common.{◌≡◌, ℕ, ◌≤◌, true, cond, leb, List, Some, None, Option, sym, refl, ap, ◌∙◌, arith}
 use Rattle.std.specs.List.{slice_get}
-use Rattle.std.proofs.lemmas.Bool.{le_leb}
+use Rattle.std.proofs.lemmas.Bool.{le-leb}
 use Rattle.records.specs.Records.{Rec, Contents, first_place}
 use Rattle.records.specs.Shapes.{Shape}
 use Rattle.records.specs.Shapes.Shape.{strip, node}
@@ -22,7 +22,7 @@ module _ (w : ℕ) (cs : Contents) (root : List ℕ) (some : 1 ≤ w) (shape : S
   low : leb (height w cs root) 6 ≡ true
   low =
       let t = whole.top in
-      le_leb (height w cs root) 6 (let l : height w cs root ≡ t.0.level = ap level_of t.1 in omega (arith, shape_low w t.0.level _ (shape t.0 (first_in root t.0 (all cs) t.1).0)))
+      le-leb (height w cs root) 6 (let l : height w cs root ≡ t.0.level = ap level_of t.1 in omega (arith, shape_low w t.0.level _ (shape t.0 (first_in root t.0 (all cs) t.1).0)))
 
   pub after_is : (at : ℕ) → position_after w cs root at ≡ next_at w cs root at
   after_is at = ap (λ b. cond b (next_at w cs root at) 0) low

@@ -5,7 +5,7 @@ use Rattle.std.specs.List.{slice_get, AllByRecursion as All}
 use Rattle.std.proofs.ByRecursion.{All-get_or}
 use Rattle.std.proofs.lemmas.List.{take_at, take_rest, get_or_past}
 use Rattle.std.proofs.lemmas.Option.{slice_get-get_or}
-use Rattle.std.proofs.lemmas.Bool.{ltb-true, ltb-false, le_leb, cases_lt}
+use Rattle.std.proofs.lemmas.Bool.{ltb-true, ltb-false, le-leb, cases_lt}
 use Rattle.records.specs.Limits.{Typed, Fits}
 use Rattle.records.specs.Records.{Rec, Contents, payload_bytes, no_record}
 use Rattle.records.specs.Refusals.{untold}
@@ -109,7 +109,7 @@ module _ (cs : Contents) (x : Place) where
         elim (ltb x.index (length (records_of cs x.container))) as (λ b. ltb x.index (length (records_of cs x.container)) ≡ b → Err e ≡ cond b (fitting (length p) space) (Err (untold NoSuchPlace)) → standing cs x ≡ None) [
           | true ↦ λ t h.
               let few = payload_few (record_at cs x) (there (ltb-true _ _ t)) in
-              let fit : fitting (length p) space ≡ Ok (length p) = ap (λ b. cond b (Ok (length p)) (Err (untold TooShort))) (le_leb (length p) space (omega arith)) in
+              let fit : fitting (length p) space ≡ Ok (length p) = ap (λ b. cond b (Ok (length p)) (Err (untold TooShort))) (le-leb (length p) space (omega arith)) in
               absurd (not_refused (length p) e (sym (h ∙ fit)))
           | false ↦ λ t h. nowhere (ltb-false _ _ t)
         ] refl h
@@ -146,7 +146,7 @@ module _ {K : Type 0} (key : List ℕ → K) (w width : ℕ) (is : width ≡ w) 
       let space : w ≤ length (drop (i * w) payload) = simp length-drop (rw (sym is) (omega (arith, piece_space h))) in
       e
       ∙ ap (λ xs. cond (leb w (length xs)) (Some (key (take w xs))) None) part
-      ∙ ap (λ b. cond b (Some (key (take w (drop (i * w) payload)))) None) (le_leb w (length (drop (i * w) payload)) space)
+      ∙ ap (λ b. cond b (Some (key (take w (drop (i * w) payload)))) None) (le-leb w (length (drop (i * w) payload)) space)
       ∙ sym (ap (as_key key) (nth_cut w payload i (subst (λ (n : ℕ). i < length payload / n) is h)))
 
   pub piece_none : length payload / width ≤ i → None ≡ as_key key (slice_get (cut w payload) i)

@@ -1,4 +1,6 @@
 // Walks over trees of records, on any device: the cursor's descent, and the examination of a tree.
+#![tactic(auto)]
+
 mod children;
 pub mod cursor;
 pub mod examination;

@@ -9,7 +9,7 @@ loop-byte-preserved c =
     let xs = c.args.bytes.now in
     let e : mixed_all l.sum (drop l.byte-index xs) ≡ mixed_all (mixed l.sum (get_or xs l.byte-index 0)) (drop (l.byte-index + 1) xs)
     = at_drop_more (mixed_all l.sum) xs l.byte-index 0 c.loop-byte-test.true in
-    rw c.mix-byte-sum.ensures (sym e ∙ l.invariant)
+    rw c.mix_byte-sum.ensures (sym e ∙ l.invariant)
 
 pub returns : goal.returns
 returns c =

@@ -9,4 +9,4 @@ returns g c =
     let narrow : w ≤ 20 = g.met.K.Key.narrow in
     let k : c.width-width.result - 0 ≡ w = (let e = c.width-width.ensures in omega arith) in
     let f = front-written w c.write.result (g.K.Key.bytes c.args.key) (replicate 20 0) c.write.new.to (g.met.K.Key.long c.args.key) narrow c.write.ensures.fits c.write.ensures.after in
-    c.hash-behind.ensures ∙ ap (λ bs. fnv1a (c.args.first ∷ bs)) (ap (λ n. take n c.write.new.to) k ∙ f)
+    c.hash_behind.ensures ∙ ap (λ bs. fnv1a (c.args.first ∷ bs)) (ap (λ n. take n c.write.new.to) k ∙ f)
