@@ -12,9 +12,9 @@ returns-in-Some g c =
     let name : ℕ → List ℕ → List ℕ = λ l p. g.Kind.Key.bytes (g.Kind.Fingerprint.naming l p) in
     let judge = cause_of g.Kind.Key.width name cs c.args.examination in
     let rs = records_of cs c.args.container in
-    let n = same_ok _ _ _ c.in-ok-count.ensures (records_told cs c.args.container c.requires) in
+    let n = same_ok _ _ _ c.in_ok-count.ensures (records_told cs c.args.container c.requires) in
     let inside : c.loop-index.index < length rs = (let t = c.loop-index-test.true in omega arith) in
-    ap Err c.at.ensures ∙ ap answer_by (sym (among_here judge c.args.container c.loop-index.index rs c.in-Some.cause inside (sym (same_ok _ _ _ c.in-ok-cause.ensures refl) ∙ c.in-Some.is)) ∙ c.loop-index.invariant)
+    ap Err c.at.ensures ∙ ap answer_by (sym (among_here judge c.args.container c.loop-index.index rs c.in-Some.cause inside (sym (same_ok _ _ _ c.in_ok-cause.ensures refl) ∙ c.in-Some.is)) ∙ c.loop-index.invariant)
 
 pub loop-index-preserved : goal.loop-index-preserved
 loop-index-preserved g c =
@@ -22,9 +22,9 @@ loop-index-preserved g c =
     let name : ℕ → List ℕ → List ℕ = λ l p. g.Kind.Key.bytes (g.Kind.Fingerprint.naming l p) in
     let judge = cause_of g.Kind.Key.width name cs c.args.examination in
     let rs = records_of cs c.args.container in
-    let n = same_ok _ _ _ c.in-ok-count.ensures (records_told cs c.args.container c.requires) in
+    let n = same_ok _ _ _ c.in_ok-count.ensures (records_told cs c.args.container c.requires) in
     let inside : c.loop-index.index < length rs = (let t = c.loop-index-test.true in omega arith) in
-    sym (among_more judge c.args.container c.loop-index.index rs inside (sym (same_ok _ _ _ c.in-ok-cause.ensures refl) ∙ c.in-default.is)) ∙ c.loop-index.invariant
+    sym (among_more judge c.args.container c.loop-index.index rs inside (sym (same_ok _ _ _ c.in_ok-cause.ensures refl) ∙ c.in-default.is)) ∙ c.loop-index.invariant
 
 pub returns : goal.returns
 returns g c =
@@ -32,5 +32,5 @@ returns g c =
     let name : ℕ → List ℕ → List ℕ = λ l p. g.Kind.Key.bytes (g.Kind.Fingerprint.naming l p) in
     let judge = cause_of g.Kind.Key.width name cs c.args.examination in
     let rs = records_of cs c.args.container in
-    let n = same_ok _ _ _ c.in-ok-count.ensures (records_told cs c.args.container c.requires) in
+    let n = same_ok _ _ _ c.in_ok-count.ensures (records_told cs c.args.container c.requires) in
     ap answer_by (sym (among-all judge c.args.container c.loop-index.index rs (let t = c.loop-index-test.false in omega arith)) ∙ c.loop-index.invariant)

@@ -5,15 +5,15 @@ use Rattle.admission.specs.Admission.{answer_by}
 use Rattle.admission.proofs.Searching.{none_refused, one_refused, from_here, from_more, from_all}
 use Rattle.admission.proofs.examining.examine_records.Goals as goal
 
-pub returns-in-err-examine-container : goal.returns-in-err-examine-container
-returns-in-err-examine-container g c =
+pub returns-in_err-examine_container : goal.returns-in_err-examine_container
+returns-in_err-examine_container g c =
     let cs = g.D.Device.contents c.args.device.now in
     let name : ℕ → List ℕ → List ℕ = λ l p. g.Kind.Key.bytes (g.Kind.Fingerprint.naming l p) in
     let judge = cause_of g.Kind.Key.width name cs c.args.examination in
     let k = c.loop-container.container in
     let inside : k < length cs = (let n = c.count-count.ensures in let t = c.loop-container-test.true in omega arith) in
     let p = err_from_is_err_and c.from-residual.result c.from-residual.ensures.1 in
-    p.1 ∙ ap Err p.2 ∙ ap answer_by (sym (from_here judge k cs _ inside (one_refused _ _ c.in-err-examine-container.ensures)) ∙ c.loop-container.invariant)
+    p.1 ∙ ap Err p.2 ∙ ap answer_by (sym (from_here judge k cs _ inside (one_refused _ _ c.in_err-examine_container.ensures)) ∙ c.loop-container.invariant)
 
 pub loop-container-preserved : goal.loop-container-preserved
 loop-container-preserved g c =
@@ -22,7 +22,7 @@ loop-container-preserved g c =
     let judge = cause_of g.Kind.Key.width name cs c.args.examination in
     let k = c.loop-container.container in
     let inside : k < length cs = (let n = c.count-count.ensures in let t = c.loop-container-test.true in omega arith) in
-    sym (from_more judge k cs inside (none_refused _ c.in-ok-examine-container.ensures)) ∙ c.loop-container.invariant
+    sym (from_more judge k cs inside (none_refused _ c.in_ok-examine_container.ensures)) ∙ c.loop-container.invariant
 
 pub returns : goal.returns
 returns g c =

@@ -15,5 +15,5 @@ returns g c =
     let w = g.F.Key.width in
     let cs = contents_of w c.args.file.now in
     let n = c.count-count.ensures in
-    let tape : held_by w c.copy-all.new.to ≡ cs = onto_free cs _ _ _ n c.in-ok-between.ensures c.in-ok-copy-all.ensures.moved in
-    onto_free (held_by w c.copy-all.new.to) _ _ _ (n ∙ ap length (sym tape)) c.in-ok-copy.ensures c.in-ok-copy-all-2.ensures.moved ∙ tape
+    let tape : held_by w c.copy_all.new.to ≡ cs = onto_free cs _ _ _ n c.in_ok-between.ensures c.in_ok-copy_all.ensures.moved in
+    onto_free (held_by w c.copy_all.new.to) _ _ _ (n ∙ ap length (sym tape)) c.in_ok-copy.ensures c.in_ok-copy_all-2.ensures.moved ∙ tape

@@ -6,32 +6,32 @@ use Rattle.container_format.proofs.One.{one_file}
 use Rattle.container_format.proofs.Whole.{is_file, no_count, size_refused, layout_refused}
 use Rattle.container_format.proofs.acceptance.check.Goals as goal
 
-pub returns-then-not-has-length : goal.returns-then-not-has-length
-returns-then-not-has-length g c =
+pub returns-then-not-has_length : goal.returns-then-not-has_length
+returns-then-not-has_length g c =
     let w = g.F.Key.width in
     let bs = c.args.bytes.now in
     record {
-      answer = size_refused w bs c.of.result c.of.ensures (no_count w c.container-size-size.result (length bs) c.container-size-size.ensures (λ count. c.if-not-has-length.ensures.no count));
+      answer = size_refused w bs c.of.result c.of.ensures (no_count w c.container_size-size.result (length bs) c.container_size-size.ensures (λ count. c.if-not-has_length.ensures.no count));
       one = one_file w;
     }
 
-pub returns-then-containers-in-order : goal.returns-then-containers-in-order
-returns-then-containers-in-order g c =
+pub returns-then-containers_in_order : goal.returns-then-containers_in_order
+returns-then-containers_in_order g c =
     let w = g.F.Key.width in
     let bs = c.args.bytes.now in
-    let n = length bs / c.container-size-size.result in
+    let n = length bs / c.container_size-size.result in
     let b : Bytes bs = All-from_get_or (λ x. x < 256) bs 0 (λ i h. let f = c.type-inv.bytes i in omega arith) in
     record {
-      answer = is_file w n bs b (c.if-not-has-length.ensures.yes tt) (subst (λ v. ContainersOk v n bs) c.width.ensures (c.if-containers-in-order.ensures.yes tt));
+      answer = is_file w n bs b (c.if-not-has_length.ensures.yes tt) (subst (λ v. ContainersOk v n bs) c.width.ensures (c.if-containers_in_order.ensures.yes tt));
       one = one_file w;
     }
 
-pub returns-else-containers-in-order : goal.returns-else-containers-in-order
-returns-else-containers-in-order g c =
+pub returns-else-containers_in_order : goal.returns-else-containers_in_order
+returns-else-containers_in_order g c =
     let w = g.F.Key.width in
     let bs = c.args.bytes.now in
-    let n = length bs / c.container-size-size.result in
+    let n = length bs / c.container_size-size.result in
     record {
-      answer = layout_refused w n bs c.of-else-containers-in-order.result c.of-else-containers-in-order.ensures (c.if-not-has-length.ensures.yes tt) (λ ok. c.if-containers-in-order.ensures.no (subst (λ v. ContainersOk v n bs) (sym c.width.ensures) ok));
+      answer = layout_refused w n bs c.of-else-containers_in_order.result c.of-else-containers_in_order.ensures (c.if-not-has_length.ensures.yes tt) (λ ok. c.if-containers_in_order.ensures.no (subst (λ v. ContainersOk v n bs) (sym c.width.ensures) ok));
       one = one_file w;
     }

@@ -3,8 +3,8 @@ use Rattle.std.proofs.lemmas.List.{take_rest}
 use Rattle.container_format.proofs.Turn.{enough, held_more, held_not}
 use Rattle.container_format.proofs.acceptance.entries_in_order.Goals as goal
 
-pub entry-length-requires : goal.entry-length-requires
-entry-length-requires c =
+pub entry_length-requires : goal.entry_length-requires
+entry_length-requires c =
     let k = enough _ _ _ _ _ _ _ _ _ c.loop-i.invariant c.loop-i-test.true c.requires.few in
     let r = c.loop-i.invariant.space in
     record { narrow = c.requires.narrow; long = k; inside = omega arith }

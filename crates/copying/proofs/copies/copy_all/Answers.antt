@@ -6,5 +6,5 @@ use Rattle.copying.proofs.copies.copy_all.Goals as goal
 pub returns : goal.returns
 returns g c =
     let cs = g.X.Device.contents c.args.from.now in
-    let es = g.Y.Device.contents c.copy-containers.new.to in
-    record { moved = c.copy-containers.ensures; same = λ stored free. moved_fresh g.Kind.Key.width cs c.copy-containers.result es stored (subst (λ ds. MovedAll cs ds c.copy-containers.result es) free c.copy-containers.ensures) }
+    let es = g.Y.Device.contents c.copy_containers.new.to in
+    record { moved = c.copy_containers.ensures; same = λ stored free. moved_fresh g.Kind.Key.width cs c.copy_containers.result es stored (subst (λ ds. MovedAll cs ds c.copy_containers.result es) free c.copy_containers.ensures) }

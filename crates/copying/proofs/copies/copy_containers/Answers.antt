@@ -13,7 +13,7 @@ loop-container-preserved g c =
     let cs = g.X.Device.contents c.args.from.now in
     let ds = g.Y.Device.contents c.args.to.now in
     let k = c.loop-container.container in
-    c.in-ok-copy-container.ensures ∙ ap (λ xs. with_more xs k (records_of cs k)) c.loop-container.invariant ∙ stacked_one ds cs k (let n = c.count-container-end.ensures in let t = c.loop-container-test.true in omega arith)
+    c.in_ok-copy_container.ensures ∙ ap (λ xs. with_more xs k (records_of cs k)) c.loop-container.invariant ∙ stacked_one ds cs k (let n = c.count-container-end.ensures in let t = c.loop-container-test.true in omega arith)
 
 pub returns : goal.returns
 returns g c =

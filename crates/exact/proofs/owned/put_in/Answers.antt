@@ -7,8 +7,8 @@ use Rattle.exact.proofs.owned.put_in.Goals as goal
 
 pub returns : goal.returns
 returns g c =
-    let v = c.deref-mut.ensures.value in
-    let e = lent_back c.args.slots.now c.deref-mut.result.now c.insert.new.slots v c.insert.auto.slots in
+    let v = c.deref_mut.ensures.value in
+    let e = lent_back c.args.slots.now c.deref_mut.result.now c.insert.new.slots v c.insert.auto.slots in
     record {
       meaning =
           subst (λ (ys : List (Slot g.row.K.Denot)). Inserted g.K.Key.bytes c.args.key (keys_of (vec_items c.args.slots.now)) c.insert.result (keys_of ys)) (sym e)

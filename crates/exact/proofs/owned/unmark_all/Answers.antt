@@ -6,8 +6,8 @@ use Rattle.exact.proofs.owned.unmark_all.Goals as goal
 
 pub returns : goal.returns
 returns g c =
-    let v = c.deref-mut.ensures.value in
-    let e = lent_back c.args.slots.now c.deref-mut.result.now c.unmark.new.slots v c.unmark.auto.slots in
+    let v = c.deref_mut.ensures.value in
+    let e = lent_back c.args.slots.now c.deref_mut.result.now c.unmark.new.slots v c.unmark.auto.slots in
     record {
       meaning =
           subst (λ (ys : List (Slot g.row.K.Denot)). NoMarks g.K.Key.bytes (vec_items c.args.slots.now) ys) (sym e)

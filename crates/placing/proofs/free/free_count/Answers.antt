@@ -7,10 +7,10 @@ pub loop-container-preserved : goal.loop-container-preserved
 loop-container-preserved g c =
     let cs = g.D.Device.contents c.args.device.now in
     let k = c.loop-container.container in
-    let t = c.is-free.result in
+    let t = c.is_free.result in
     let here : k < length cs = (let n = c.count-container-end.ensures in let less = c.loop-container-test.true in omega arith) in
     let before = c.loop-container.invariant in
-    elim c.if-is-free.branch [ then-is-free w ↦ (let s = count_step cs k t true here c.is-free.ensures w.if-is-free.true in let n = w.free-is in (omega arith, omega arith)) | else-is-free w ↦ (let s = count_step cs k t false here c.is-free.ensures w.if-is-free.false in let n = w.free-is in (omega arith, omega arith)) ]
+    elim c.if-is_free.branch [ then-is-free w ↦ (let s = count_step cs k t true here c.is_free.ensures w.if-is_free.true in let n = w.free-is in (omega arith, omega arith)) | else-is-free w ↦ (let s = count_step cs k t false here c.is_free.ensures w.if-is_free.false in let n = w.free-is in (omega arith, omega arith)) ]
 
 pub returns : goal.returns
 returns g c =

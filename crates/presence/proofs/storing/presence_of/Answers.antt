@@ -10,6 +10,6 @@ returns-in-None g c =
 
 pub returns-in-Some : goal.returns-in-Some
 returns-in-Some g c =
-    c.present-at.ensures
+    c.present_at.ensures
     ∙ ap (present_as c.args.level c.args.payload.now)
     (record_there (g.D.Device.contents c.args.device.now) (g.Kind.Key.bytes c.args.fingerprint) (Some c.in-Some.place) c.in-Some.ensures)

@@ -9,9 +9,9 @@ pub returns : goal.returns
 returns g c =
     let k = g.K.Key in
     let xs = c.args.slots.now in
-    let e = c.probe-for-met.ensures.answer in
+    let e = c.probe_for-met.ensures.answer in
     let inj = equal_keys k.bytes k.key g.met.K.Key.back in
     record {
-      after = c.note-key.ensures ∙ ap (λ p. noted p c.args.key xs) e;
-      meaning = subst (λ (ys : List (Slot g.row.K.Denot)). OneMark k.bytes c.args.key xs ys) (sym c.note-key.ensures) (one_mark k.bytes inj xs c.args.key c.probe-for-met.result e);
+      after = c.note_key.ensures ∙ ap (λ p. noted p c.args.key xs) e;
+      meaning = subst (λ (ys : List (Slot g.row.K.Denot)). OneMark k.bytes c.args.key xs ys) (sym c.note_key.ensures) (one_mark k.bytes inj xs c.args.key c.probe_for-met.result e);
     }

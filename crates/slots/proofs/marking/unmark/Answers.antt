@@ -9,7 +9,7 @@ use Rattle.slots.proofs.marking.unmark.Goals as goal
 pub loop-slot-preserved : goal.loop-slot-preserved
 loop-slot-preserved g c =
     let l = c.loop-slot in
-    let e = c.without-mark.ensures ∙ ap plain (sym c.slot-item.is) in
+    let e = c.without_mark.ensures ∙ ap plain (sym c.slot-item.is) in
     ap (λ y. set l.slots l.slot-index y) e
     ∙ map_over_more plain c.args.slots.now l.slots l.slot-index c.slot-item.result c.loop-slot-test.true l.invariant c.slot-item.is
 

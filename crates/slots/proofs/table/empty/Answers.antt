@@ -9,5 +9,5 @@ use Rattle.slots.proofs.table.empty.Goals as goal
 pub returns : goal.returns
 returns g c =
     let xs = c.args.slots.now in
-    let e = fill_all Empty xs c.empty-below.new.slots c.empty-below.ensures in
-    record { after = e; meaning = emptied g.K.Key.bytes (keys_of c.empty-below.new.slots) (ap (λ ys. filled (keys_of ys)) e ∙ empty_filled g.row.K.Denot (length xs)) }
+    let e = fill_all Empty xs c.empty_below.new.slots c.empty_below.ensures in
+    record { after = e; meaning = emptied g.K.Key.bytes (keys_of c.empty_below.new.slots) (ap (λ ys. filled (keys_of ys)) e ∙ empty_filled g.row.K.Denot (length xs)) }

@@ -4,13 +4,13 @@ use Rattle.slots.proofs.Walking.{none_held, none_reached, met_is, nothing_filled
 use Rattle.slots.proofs.Cells.{keys_length}
 use Rattle.slots.proofs.table.lookup.Goals as goal
 
-pub returns-then-holds-nothing : goal.returns-then-holds-nothing
-returns-then-holds-nothing g c =
+pub returns-then-holds_nothing : goal.returns-then-holds_nothing
+returns-then-holds_nothing g c =
     let b = g.K.Key.bytes in
     let k = c.args.key in
     let xs = keys_of c.args.slots.now in
     let none : (eqb (length xs) 0 || eqb c.args.count 0) ≡ true =
-    ap (λ n. eqb n 0 || eqb c.args.count 0) (keys_length c.args.slots.now) ∙ sym c.if-holds-nothing.ensures in
+    ap (λ n. eqb n 0 || eqb c.args.count 0) (keys_length c.args.slots.now) ∙ sym c.if-holds_nothing.ensures in
     record {
       answer = looked_none b k c.args.count xs none;
       walk = λ h. sym (none_reached b k xs (nothing_filled b c.args.count xs none h));
@@ -24,8 +24,8 @@ returns g c =
     let k = c.args.key in
     let xs = keys_of c.args.slots.now in
     let some : (eqb (length xs) 0 || eqb c.args.count 0) ≡ false =
-    ap (λ n. eqb n 0 || eqb c.args.count 0) (keys_length c.args.slots.now) ∙ sym c.if-holds-nothing.ensures in
-    let e = c.is-found.ensures ∙ ap is_found c.probe-for.ensures.answer in
+    ap (λ n. eqb n 0 || eqb c.args.count 0) (keys_length c.args.slots.now) ∙ sym c.if-holds_nothing.ensures in
+    let e = c.is_found.ensures ∙ ap is_found c.probe_for.ensures.answer in
     record {
       answer = e ∙ looked_walk b k c.args.count xs some;
       walk = λ h. e;

@@ -14,11 +14,11 @@ returns-in-Full g c =
     let b = g.K.Key.bytes in
     let k = c.args.key in
     let xs = c.args.slots.now in
-    let h = c.home-among-start.result in
-    let e = c.scan.ensures ∙ ap (λ ys. find b k h (keys_of ys)) c.from-place.ensures.part ∙ ap (find b k h) (keys_drop h xs) in
-    let f = c.scan-in-Full.ensures ∙ ap (λ ys. find b k 0 (keys_of ys)) c.below-place.ensures ∙ ap (find b k 0) (keys_take h xs) in
+    let h = c.home_among-start.result in
+    let e = c.scan.ensures ∙ ap (λ ys. find b k h (keys_of ys)) c.from_place.ensures.part ∙ ap (find b k h) (keys_drop h xs) in
+    let f = c.scan-in-Full.ensures ∙ ap (λ ys. find b k 0 (keys_of ys)) c.below_place.ensures ∙ ap (find b k 0) (keys_take h xs) in
     let a : c.scan-in-Full.result ≡ probed b k (keys_of xs) =
-    rw (keys_length xs, ← c.home-among-start.ensures.is) (part_two b k (keys_of xs) h c.scan.result c.scan-in-Full.result e c.in-Full.is f) in
+    rw (keys_length xs, ← c.home_among-start.ensures.is) (part_two b k (keys_of xs) h c.scan.result c.scan-in-Full.result e c.in-Full.is f) in
     record { answer = a; within = subst (λ (n : ℕ). Within c.scan-in-Full.result n) (keys_length xs) (probed_within b k (keys_of xs) _ a) }
 
 pub returns-in-default : goal.returns-in-default
@@ -26,8 +26,8 @@ returns-in-default g c =
     let b = g.K.Key.bytes in
     let k = c.args.key in
     let xs = c.args.slots.now in
-    let h = c.home-among-start.result in
-    let e = c.scan.ensures ∙ ap (λ ys. find b k h (keys_of ys)) c.from-place.ensures.part ∙ ap (find b k h) (keys_drop h xs) in
+    let h = c.home_among-start.result in
+    let e = c.scan.ensures ∙ ap (λ ys. find b k h (keys_of ys)) c.from_place.ensures.part ∙ ap (find b k h) (keys_drop h xs) in
     let a : c.scan.result ≡ probed b k (keys_of xs) =
-    rw (keys_length xs, ← c.home-among-start.ensures.is) (part_one b k (keys_of xs) h c.scan.result e c.in-default.not-Full) in
+    rw (keys_length xs, ← c.home_among-start.ensures.is) (part_one b k (keys_of xs) h c.scan.result e c.in-default.not-Full) in
     record { answer = a; within = subst (λ (n : ℕ). Within c.scan.result n) (keys_length xs) (probed_within b k (keys_of xs) _ a) }

@@ -5,7 +5,7 @@ use Rattle.walks.proofs.children.child_at.Goals as goal
 pub returns-in-Ok : goal.returns-in-Ok
 returns-in-Ok g c =
     let cs = g.D.Device.contents c.args.device.now in
-    child_read g.Kind.Key.width cs c.args.place (g.met.D.Device.held c.args.device.now) g.Kind.Key.key c.args.index c.in-Ok.long (replicate 7168 0) c.payload.new.to c.in-Ok.ensures.answer c.in-Ok.ensures.buffer c.piece-at.result c.piece-at.ensures
+    child_read g.Kind.Key.width cs c.args.place (g.met.D.Device.held c.args.device.now) g.Kind.Key.key c.args.index c.in-Ok.long (replicate 7168 0) c.payload.new.to c.in-Ok.ensures.answer c.in-Ok.ensures.buffer c.piece_at.result c.piece_at.ensures
 
 pub returns-in-Err : goal.returns-in-Err
 returns-in-Err g c =

@@ -20,12 +20,12 @@ returns-in-default g t c =
 pub nonzero-div-position : goal.nonzero-div-position
 nonzero-div-position g t c = (space_down c.args.level c.args.space c.if-level-eq0.false c.requires.space).2
 
-pub returns-in-default-child-at : goal.returns-in-default-child-at
-returns-in-default-child-at g t c =
+pub returns-in-default-child_at : goal.returns-in-default-child_at
+returns-in-default-child_at g t c =
     let k = g.Kind.Key in
     let d = c.args.device.now in
     record {
-      is = next_no_child (ground g d) (k.bytes c.args.node) c.args.level c.args.space c.args.position c.if-level-eq0.false c.requires.space c.in-Some.place c.in-Some.ensures c.in-default-child-at.ensures;
+      is = next_no_child (ground g d) (k.bytes c.args.node) c.args.level c.args.space c.args.position c.if-level-eq0.false c.requires.space c.in-Some.place c.in-Some.ensures c.in-default-child_at.ensures;
       small = omega (arith, c.requires.space);
     }
 
@@ -35,8 +35,8 @@ nonzero-div-to g t c = (space_down c.args.level c.args.space c.if-level-eq0.fals
 pub nonzero-rem-position : goal.nonzero-rem-position
 nonzero-rem-position g t c = (space_down c.args.level c.args.space c.if-level-eq0.false c.requires.space).2
 
-pub next-below-requires : goal.next-below-requires
-next-below-requires g t c κs within =
+pub next_below-requires : goal.next_below-requires
+next_below-requires g t c κs within =
     let down = space_down c.args.level c.args.space c.if-level-eq0.false c.requires.space in
     search rules
 
@@ -45,15 +45,15 @@ overflow-add-to g t c =
     let k = g.Kind.Key in
     let d = c.args.device.now in
     let b : ℕ = c.args.space / 64 in
-    let s : c.args.position / b * b + c.next-below.result ≤ 128 * span c.args.level = next_small (ground g d) (k.bytes c.args.node) c.args.level c.args.space c.args.position c.if-level-eq0.false c.requires.space c.in-Some.place c.in-Some.ensures c.in-Some-child-at.child c.in-Some-child-at.ensures c.child-count-count.result c.next-below.result c.child-count-count.ensures.is c.next-below.ensures.is c.child-count-count.ensures.few c.next-below.ensures.small in
-    let small : c.args.position / b * b + c.next-below.result ≤ 0x800_0000_0000 = omega (arith, span_small c.args.level c.requires.low, s) in
+    let s : c.args.position / b * b + c.next_below.result ≤ 128 * span c.args.level = next_small (ground g d) (k.bytes c.args.node) c.args.level c.args.space c.args.position c.if-level-eq0.false c.requires.space c.in-Some.place c.in-Some.ensures c.in-Some-child_at.child c.in-Some-child_at.ensures c.child_count-count.result c.next_below.result c.child_count-count.ensures.is c.next_below.ensures.is c.child_count-count.ensures.few c.next_below.ensures.small in
+    let small : c.args.position / b * b + c.next_below.result ≤ 0x800_0000_0000 = omega (arith, span_small c.args.level c.requires.low, s) in
     omega arith
 
 pub overflow-mul-count : goal.overflow-mul-count
 overflow-mul-count g t c =
     let k = g.Kind.Key in
     let d = c.args.device.now in
-    let small : c.child-count-count.result * (c.args.space / 64) ≤ 0x800_0000_0000 = count_small (ground g d) (k.bytes c.args.node) c.args.level c.args.space c.args.position c.if-level-eq0.false c.requires.space c.in-Some.place c.in-Some.ensures c.in-Some-child-at.child c.in-Some-child-at.ensures c.child-count-count.result c.next-below.result c.child-count-count.ensures.is c.next-below.ensures.is c.child-count-count.ensures.few c.requires.low in
+    let small : c.child_count-count.result * (c.args.space / 64) ≤ 0x800_0000_0000 = count_small (ground g d) (k.bytes c.args.node) c.args.level c.args.space c.args.position c.if-level-eq0.false c.requires.space c.in-Some.place c.in-Some.ensures c.in-Some-child_at.child c.in-Some-child_at.ensures c.child_count-count.result c.next_below.result c.child_count-count.ensures.is c.next_below.ensures.is c.child_count-count.ensures.few c.requires.low in
     omega arith
 
 pub returns-then-to-count : goal.returns-then-to-count
@@ -61,7 +61,7 @@ returns-then-to-count g t c =
     let k = g.Kind.Key in
     let d = c.args.device.now in
     record {
-      is = next_end (ground g d) (k.bytes c.args.node) c.args.level c.args.space c.args.position c.if-level-eq0.false c.requires.space c.in-Some.place c.in-Some.ensures c.in-Some-child-at.child c.in-Some-child-at.ensures c.child-count-count.result c.next-below.result c.child-count-count.ensures.is c.next-below.ensures.is c.if-to-count.true;
+      is = next_end (ground g d) (k.bytes c.args.node) c.args.level c.args.space c.args.position c.if-level-eq0.false c.requires.space c.in-Some.place c.in-Some.ensures c.in-Some-child_at.child c.in-Some-child_at.ensures c.child_count-count.result c.next_below.result c.child_count-count.ensures.is c.next_below.ensures.is c.if-to-count.true;
       small = omega (arith, c.requires.space);
     }
 
@@ -70,6 +70,6 @@ returns-else-to-count g t c =
     let k = g.Kind.Key in
     let d = c.args.device.now in
     record {
-      is = next_on (ground g d) (k.bytes c.args.node) c.args.level c.args.space c.args.position c.if-level-eq0.false c.requires.space c.in-Some.place c.in-Some.ensures c.in-Some-child-at.child c.in-Some-child-at.ensures c.child-count-count.result c.next-below.result c.child-count-count.ensures.is c.next-below.ensures.is c.if-to-count.false;
-      small = next_small (ground g d) (k.bytes c.args.node) c.args.level c.args.space c.args.position c.if-level-eq0.false c.requires.space c.in-Some.place c.in-Some.ensures c.in-Some-child-at.child c.in-Some-child-at.ensures c.child-count-count.result c.next-below.result c.child-count-count.ensures.is c.next-below.ensures.is c.child-count-count.ensures.few c.next-below.ensures.small;
+      is = next_on (ground g d) (k.bytes c.args.node) c.args.level c.args.space c.args.position c.if-level-eq0.false c.requires.space c.in-Some.place c.in-Some.ensures c.in-Some-child_at.child c.in-Some-child_at.ensures c.child_count-count.result c.next_below.result c.child_count-count.ensures.is c.next_below.ensures.is c.if-to-count.false;
+      small = next_small (ground g d) (k.bytes c.args.node) c.args.level c.args.space c.args.position c.if-level-eq0.false c.requires.space c.in-Some.place c.in-Some.ensures c.in-Some-child_at.child c.in-Some-child_at.ensures c.child_count-count.result c.next_below.result c.child_count-count.ensures.is c.next_below.ensures.is c.child_count-count.ensures.few c.next_below.ensures.small;
     }

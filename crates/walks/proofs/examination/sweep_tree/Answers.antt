@@ -23,7 +23,7 @@ returns-in-Full g c e =
     let k = g.Kind.Key in
     let cs = g.D.Device.contents c.args.device.now in
     let t = c.args.table.now in
-    let n = node_stored cs (k.bytes c.args.root) c.height-of-level.result c.height-of-level.ensures c.if-level-eq0.false in
+    let n = node_stored cs (k.bytes c.args.root) c.height_of-level.result c.height_of-level.ensures c.if-level-eq0.false in
     let short = start_full k.bytes cs c.args.root n.0 (keys_of t) e n.1 (sym c.in-Full.ensures.meaning.full) in
     ((n.0, n.1, n.2), omega (arith, keys_length t))
 
@@ -35,11 +35,11 @@ returns-in-default g c e =
     let t = c.args.table.now in
     let root = k.bytes c.args.root in
     let ys = keys_of c.insert.new.slots in
-    let n = node_stored cs root c.height-of-level.result c.height-of-level.ensures c.if-level-eq0.false in
+    let n = node_stored cs root c.height_of-level.result c.height_of-level.ensures c.if-level-eq0.false in
     let s = sweep_start k.bytes k.width cs c.args.root n.0 (keys_of t) e n.1 n.2 c.insert.result ys c.insert.ensures.meaning (not_full c.insert.result c.in-default.not-Full) in
-    let from : Sweep k.bytes k.width cs root (length t) c.height-of-level.result [] ys =
-    subst (λ (slots : ℕ). Sweep k.bytes k.width cs root slots c.height-of-level.result [] ys) (keys_length t)
+    let from : Sweep k.bytes k.width cs root (length t) c.height_of-level.result [] ys =
+    subst (λ (slots : ℕ). Sweep k.bytes k.width cs root slots c.height_of-level.result [] ys) (keys_length t)
     (subst (λ (l : ℕ). Sweep k.bytes k.width cs root (length (keys_of t)) l [] ys) n.3 s) in
-    passed_map k.width cs root (length t) _ _ c.visit-levels.result
-    (sweep_whole k.bytes k.key k.width cs root (length t) (keys_of c.visit-levels.new.table) (reached_typed (ground g d) c.args.root))
-    (c.visit-levels.ensures root (length t) from)
+    passed_map k.width cs root (length t) _ _ c.visit_levels.result
+    (sweep_whole k.bytes k.key k.width cs root (length t) (keys_of c.visit_levels.new.table) (reached_typed (ground g d) c.args.root))
+    (c.visit_levels.ensures root (length t) from)

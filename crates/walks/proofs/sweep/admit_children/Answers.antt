@@ -16,10 +16,10 @@ returns-in-Ok g c payload root slots done p r s f e =
     let k = g.Kind.Key in
     let d = c.args.device.now in
     let cs = g.D.Device.contents d in
-    let ys = keys_of c.admit-pieces.new.table in
+    let ys = keys_of c.admit_pieces.new.table in
     let same : r.payload ≡ take (c.in-Ok.long - 0) c.payload.new.to = node_copied (ground g d) root slots c.args.level c.args.place p r (keys_of c.args.table.now) f c.in-Ok.long (replicate 7168 0) c.payload.new.to c.in-Ok.ensures.answer c.in-Ok.ensures.buffer in
-    subst (λ (bs : List ℕ). Passed k.width cs root slots (Sweep k.bytes k.width cs root slots c.args.level done ys × Admitted k.bytes cs c.args.level (cut k.width bs) ys) c.admit-pieces.result) (sym same ∙ e)
-    (c.admit-pieces.ensures root slots done p r s f same)
+    subst (λ (bs : List ℕ). Passed k.width cs root slots (Sweep k.bytes k.width cs root slots c.args.level done ys × Admitted k.bytes cs c.args.level (cut k.width bs) ys) c.admit_pieces.result) (sym same ∙ e)
+    (c.admit_pieces.ensures root slots done p r s f same)
 
 pub returns-in-Err : goal.returns-in-Err
 returns-in-Err g c payload root slots done p r s f e =

@@ -7,6 +7,6 @@ returns g c =
     let cs = g.D.Device.contents c.args.device.now in
     let q = g.Kind.Key.bytes c.args.child in
     record {
-      under = λ e. child_under cs q c.args.level c.place-at-level.result c.place-at-level.ensures c.requires (sym c.is-some.ensures ∙ e);
-      lacks = λ e. child_lacks cs q c.args.level c.place-at-level.result c.place-at-level.ensures (sym c.is-some.ensures ∙ e);
+      under = λ e. child_under cs q c.args.level c.place_at_level.result c.place_at_level.ensures c.requires (sym c.is_some.ensures ∙ e);
+      lacks = λ e. child_lacks cs q c.args.level c.place_at_level.result c.place_at_level.ensures (sym c.is_some.ensures ∙ e);
     }

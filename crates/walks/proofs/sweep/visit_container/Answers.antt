@@ -22,10 +22,10 @@ returns-in-default g c done root slots s =
     let cs = g.D.Device.contents c.args.device.now in
     subst (λ (rs : List Rec). Sweep k.bytes k.width cs root slots c.args.level (map (λ r. r.fingerprint) rs ++ done) (keys_of c.args.table.now)) (sym (none_of cs c.args.container c.in-default.field-0 c.in-default.ensures)) s
 
-pub returns-in-err-visit-node : goal.returns-in-err-visit-node
-returns-in-err-visit-node g c done root slots s =
-    passed_err g.Kind.Key.width (g.D.Device.contents c.args.device.now) root slots _ c.from-residual.result c.in-err-visit-node.field-0.0 c.from-residual.ensures.1
-    (c.in-err-visit-node.ensures _ root slots (c.loop-index.invariant root slots done s))
+pub returns-in_err-visit_node : goal.returns-in_err-visit_node
+returns-in_err-visit_node g c done root slots s =
+    passed_err g.Kind.Key.width (g.D.Device.contents c.args.device.now) root slots _ c.from-residual.result c.in_err-visit_node.field-0.0 c.from-residual.ensures.1
+    (c.in_err-visit_node.ensures _ root slots (c.loop-index.invariant root slots done s))
 
 pub loop-index-preserved : goal.loop-index-preserved
 loop-index-preserved g c root slots done s =
@@ -36,7 +36,7 @@ loop-index-preserved g c root slots done s =
     let After : List (Slot g.row.D-Kind.Denot) → Type 0 = λ t. Sweep k.bytes k.width cs root slots c.args.level (map (λ r. r.fingerprint) (take (c.loop-index.index + 1) (records_of cs c.args.container)) ++ done) (keys_of t) in
     elim c.match-fingerprint.branch [
       | in-Ok-fingerprint+in-ok-visit-node w ↦ subst After (sym w.table-is)
-          (node_more (ground g d) root slots c.args.level c.args.container c.loop-index.index w.in-Ok-fingerprint.node w.in-Ok-fingerprint.ensures done (keys_of w.visit-node.new.table) (w.in-ok-visit-node.ensures _ root slots i))
+          (node_more (ground g d) root slots c.args.level c.args.container c.loop-index.index w.in-Ok-fingerprint.node w.in-Ok-fingerprint.ensures done (keys_of w.visit_node.new.table) (w.in_ok-visit_node.ensures _ root slots i))
       | in-default-fingerprint w ↦ absurd (
           let past : length (records_of cs c.args.container) ≤ c.loop-index.index = nth_past (records_of cs c.args.container) c.loop-index.index (untold_none cs (record { container = c.args.container; index = c.loop-index.index }) (λ r. k.key r.fingerprint) w.in-default-fingerprint.field-0 w.in-default-fingerprint.ensures) in
           omega (arith, c.loop-index-test.true, count_of cs c.args.container c.in-Ok.count c.in-Ok.ensures))

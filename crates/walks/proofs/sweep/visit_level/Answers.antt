@@ -8,16 +8,16 @@ use Rattle.walks.proofs.sweep.visit_level.Goals as goal
 abbrev ground : (g : given.Over) → g.row.D.Denot → Ground g.row.D-Kind.Denot
 ground g = grounded g.Kind.Key g.met.Kind.Key.any g.met.Kind.Key.back g.D.Device g.met.D.Device.held
 
-pub returns-in-err-visit-container : goal.returns-in-err-visit-container
-returns-in-err-visit-container g c root slots s =
-    passed_err g.Kind.Key.width (g.D.Device.contents c.args.device.now) root slots _ c.from-residual.result c.in-err-visit-container.field-0.0 c.from-residual.ensures.1
-    (c.in-err-visit-container.ensures _ root slots (c.loop-container.invariant root slots s))
+pub returns-in_err-visit_container : goal.returns-in_err-visit_container
+returns-in_err-visit_container g c root slots s =
+    passed_err g.Kind.Key.width (g.D.Device.contents c.args.device.now) root slots _ c.from-residual.result c.in_err-visit_container.field-0.0 c.from-residual.ensures.1
+    (c.in_err-visit_container.ensures _ root slots (c.loop-container.invariant root slots s))
 
 pub loop-container-preserved : goal.loop-container-preserved
 loop-container-preserved g c root slots s =
     let d = c.args.device.now in
-    container_more (ground g d) root slots c.args.level c.loop-container.container (omega (arith, c.loop-container-test.true, c.count-container-end.ensures)) (keys_of c.visit-container.new.table)
-    (c.in-ok-visit-container.ensures _ root slots (c.loop-container.invariant root slots s))
+    container_more (ground g d) root slots c.args.level c.loop-container.container (omega (arith, c.loop-container-test.true, c.count-container-end.ensures)) (keys_of c.visit_container.new.table)
+    (c.in_ok-visit_container.ensures _ root slots (c.loop-container.invariant root slots s))
 
 pub returns : goal.returns
 returns g c root slots s =

@@ -22,9 +22,9 @@ returns-in-Some g c done root slots s =
     let cs = g.D.Device.contents d in
     let t = c.args.table.now in
     let n = node_found (ground g d) root slots c.args.level done c.args.node (keys_of t) (length t) (keys_length t) c.if-not-lookup.ensures.exact s c.in-Some.place c.in-Some.ensures in
-    passed_map k.width cs root slots _ _ c.admit-children.result
-    (node_done (ground g d) root slots c.args.level done c.args.node (keys_of t) (length t) (keys_length t) c.if-not-lookup.ensures.exact s c.in-Some.place c.in-Some.ensures (keys_of c.admit-children.new.table))
-    (c.admit-children.ensures n.0.payload root slots done c.args.node n.0 s n.1 refl)
+    passed_map k.width cs root slots _ _ c.admit_children.result
+    (node_done (ground g d) root slots c.args.level done c.args.node (keys_of t) (length t) (keys_length t) c.if-not-lookup.ensures.exact s c.in-Some.place c.in-Some.ensures (keys_of c.admit_children.new.table))
+    (c.admit_children.ensures n.0.payload root slots done c.args.node n.0 s n.1 refl)
 
 pub returns-in-None : goal.returns-in-None
 returns-in-None g c done root slots s =

@@ -5,9 +5,9 @@ use Rattle.bloom.proofs.filter_set.BloomFilterLiveSet.seal.Goals as goal
 
 pub returns : goal.returns
 returns g c =
-    let v = c.deref-mut.ensures.value in
-    let e = lent_back c.args.self.now.bytes c.deref-mut.result.now c.clear-bits.new.bytes v c.clear-bits.auto.bytes in
+    let v = c.deref_mut.ensures.value in
+    let e = lent_back c.args.self.now.bytes c.deref_mut.result.now c.clear_bits.new.bytes v c.clear_bits.auto.bytes in
     record {
       effect = record { count = c.seal.ensures.count; capacity = refl; sealed = c.seal.ensures.sealed; remain = λ x m. m };
-      own = sealing _ _ _ _ v e c.clear-bits.ensures;
+      own = sealing _ _ _ _ v e c.clear_bits.ensures;
     }

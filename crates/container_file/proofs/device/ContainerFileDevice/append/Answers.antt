@@ -12,7 +12,7 @@ pub returns : goal.returns
 returns g c =
     let w = g.F.Key.width in
     let s = c.args.self.now in
-    let t = c.write-record.new.self in
+    let t = c.write_record.new.self in
     let cs = contents_of w s in
     let r : Rec = record { level = c.args.level; fingerprint = g.F.Key.bytes c.args.fingerprint; payload = c.args.payload.now } in
     let in-range : c.args.container < length cs = ltb-true _ _ (sym c.if-not-has.ensures.answer) in
@@ -26,9 +26,9 @@ returns g c =
     ap (λ n. take n c.write.new.to) k ∙ front-written w c.write.result r.fingerprint (replicate 20 0) c.write.new.to (g.met.F.Key.long c.args.fingerprint) g.met.F.Key.narrow c.write.ensures.fits c.write.ensures.after
     in
     let before = held_same w s here.0 in
-    let after = held_same w t (c.write-record.ensures.width ∙ here.0) in
+    let after = held_same w t (c.write_record.ensures.width ∙ here.0) in
     let put : read_as t ≡ set (read_as s) c.args.container (get_or (read_as s) c.args.container [] ++ r ∷ []) =
-    c.write-record.ensures.after ∙ ap (λ n. set (read_as s) c.args.container (get_or (read_as s) c.args.container [] ++ record { level = c.args.level; fingerprint = n; payload = c.args.payload.now } ∷ [])) name
+    c.write_record.ensures.after ∙ ap (λ n. set (read_as s) c.args.container (get_or (read_as s) c.args.container [] ++ record { level = c.args.level; fingerprint = n; payload = c.args.payload.now } ∷ [])) name
     in
     record {
       answer = sym (append_taken cs c.args.container r h);

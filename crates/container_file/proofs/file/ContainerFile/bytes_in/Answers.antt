@@ -15,5 +15,5 @@ returns g c =
     let good = intact s.width s in
     let h = intact_header s.width s.count c.args.container bs good c.requires in
     let few = (around s.width s.count c.args.container bs good c.requires).stored.fits.bytes in
-    let e : c.u16-at.result ≡ payload_bytes rs = c.u16-at.ensures ∙ (λ i. number (take 2 (drop (c.base.ensures.value i + 2) (c.deref.ensures.value i)))) ∙ h.1 ∙ length-payloads rs in
+    let e : c.u16_at.result ≡ payload_bytes rs = c.u16_at.ensures ∙ (λ i. number (take 2 (drop (c.base.ensures.value i + 2) (c.deref.ensures.value i)))) ∙ h.1 ∙ length-payloads rs in
     record { value = e; bound = omega arith }

@@ -10,8 +10,8 @@ pub returns : goal.returns
 returns g c =
     let w = g.F.Key.width in
     let s = c.args.self.now in
-    let at = c.in-ok-at.at in
-    let h = c.in-ok-at.ensures in
+    let at = c.in_ok-at.at in
+    let h = c.in_ok-at.ensures in
     let rest = take_rest c.deref.result.now at ∙ ap (drop at) c.deref.ensures.value in
     let r = read_front g.F.Key.key w at (vec_items s.bytes) _ c.read.result (let i = h.entry.inside in omega arith) rest c.read.ensures in
     r ∙ ap (λ x. Some (g.F.Key.key x)) h.entry.fingerprint ∙ sym (ap result_ok (answer_there (λ x. g.F.Key.key x.fingerprint) (contents_of w s) c.args.place h.index))

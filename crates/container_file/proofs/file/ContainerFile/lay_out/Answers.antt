@@ -10,7 +10,7 @@ use Rattle.container_file.proofs.file.ContainerFile.lay_out.Goals.{After-width, 
 counted : (g : given.Over) (c : goal.After-width g) → Count g.F.Key.width (length (vec_items c.args.bytes)) c.args.count
 counted g c =
     let l : c.len.result ≡ length (vec_items c.args.bytes) = c.len.ensures ∙ c.args.bytes.ok.0 in
-    subst (λ n. Count g.F.Key.width n c.args.count) l (c.if-not-has-length.ensures.yes tt)
+    subst (λ n. Count g.F.Key.width n c.args.count) l (c.if-not-has_length.ensures.yes tt)
 
 zeroed : (g : given.Over) (c : goal.After-width g) → Laid g.F.Key.width c.args.count (vec_items c.args.bytes) (vec_items c.zero.new.bytes)
 zeroed g c =

@@ -12,5 +12,5 @@ returns g c =
     let good = intact s.width s in
     let h = intact_header s.width s.count c.args.container bs good c.requires in
     let few = (around s.width s.count c.args.container bs good c.requires).stored.fits.count in
-    let e : c.u16-at.result ≡ length (get_or (read_as s) c.args.container []) = c.u16-at.ensures ∙ (λ i. number (take 2 (drop (c.base.ensures.value i) (c.deref.ensures.value i)))) ∙ h.0 in
+    let e : c.u16_at.result ≡ length (get_or (read_as s) c.args.container []) = c.u16_at.ensures ∙ (λ i. number (take 2 (drop (c.base.ensures.value i) (c.deref.ensures.value i)))) ∙ h.0 in
     record { value = e; bound = omega arith }

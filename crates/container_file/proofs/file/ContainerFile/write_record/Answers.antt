@@ -14,29 +14,29 @@ use Rattle.container_file.proofs.file.ContainerFile.write_record.Goals.{After-pu
 
 pub put-requires-2 : goal.put-requires-2
 put-requires-2 g c =
-    let count = c.records-in-count.ensures.value in
-    let row = row_all c.records-in-count.result (c.args.self.now.width + 8) (let t = c.requires.count in omega arith) in
+    let count = c.records_in-count.ensures.value in
+    let row = row_all c.records_in-count.result (c.args.self.now.width + 8) (let t = c.requires.count in omega arith) in
     let wide = c.requires.wide in
     let inside = c.base-base.ensures.inside in
     omega (arith, c.put.ensures.len)
 
 pub put-requires-3 : goal.put-requires-3
 put-requires-3 g c =
-    let count = c.records-in-count.ensures.value in
-    let row = row_all c.records-in-count.result (c.args.self.now.width + 8) (let t = c.requires.count in omega arith) in
-    let tail : length c.entry-tail-tail.result ≡ 8 = ap length c.entry-tail-tail.ensures in
+    let count = c.records_in-count.ensures.value in
+    let row = row_all c.records_in-count.result (c.args.self.now.width + 8) (let t = c.requires.count in omega arith) in
+    let tail : length c.entry_tail-tail.result ≡ 8 = ap length c.entry_tail-tail.ensures in
     let inside = c.base-base.ensures.inside in
     omega (arith, c.put.ensures.len, c.put-2.ensures.len)
 
 known : (g : given.Over) (c : goal.After-put-4 g) → let s = c.args.self.now in
-    Known s.width s.count c.args.container c.base-base.result (c.base-base.result + (16 + c.records-in-count.result * (s.width + 8))) c.records-in-count.result c.bytes-in-used.result c.args.level (vec_items s.bytes) c.args.fingerprint.now c.args.payload.now c.entry-tail-tail.result c.header-head.result
+    Known s.width s.count c.args.container c.base-base.result (c.base-base.result + (16 + c.records_in-count.result * (s.width + 8))) c.records_in-count.result c.bytes_in-used.result c.args.level (vec_items s.bytes) c.args.fingerprint.now c.args.payload.now c.entry_tail-tail.result c.header-head.result
 known g c =
     let s = c.args.self.now in
     let rs = get_or (read_as s) c.args.container [] in
     let fb : Bytes c.args.fingerprint.now = All-from_get_or (λ b. b < 256) c.args.fingerprint.now 0 (λ i h. let f = c.type-inv.fingerprint i in omega arith) in
     let pb : Bytes c.args.payload.now = All-from_get_or (λ b. b < 256) c.args.payload.now 0 (λ i h. let f = c.type-inv.payload i in omega arith) in
-    let count = c.records-in-count.ensures.value in
-    let used = c.bytes-in-used.ensures.value in
+    let count = c.records_in-count.ensures.value in
+    let used = c.bytes_in-used.ensures.value in
     record {
       good = intact s.width s;
       here = c.requires.here;
@@ -47,7 +47,7 @@ known g c =
       space = (let t = c.requires.fits in omega arith);
       new = record { typed = record { wide = c.requires.wide; fingerprint = fb; payload = pb }; level = c.requires.level; some = c.requires.some; few = c.requires.few };
       placed = refl;
-      tailed = c.entry-tail-tail.ensures;
+      tailed = c.entry_tail-tail.ensures;
       headed = c.header-head.ensures;
     }
 

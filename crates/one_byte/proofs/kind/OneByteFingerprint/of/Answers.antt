@@ -3,4 +3,4 @@ use Rattle.one_byte.specs.Lows.{low_numbered_lem}
 use Rattle.one_byte.proofs.kind.OneByteFingerprint.of.Goals as goal
 
 pub returns : goal.returns
-returns c = low_numbered_lem _ _ (ap (λ n. n % 256) c.hash-behind.ensures)
+returns c = low_numbered_lem _ _ (ap (λ n. n % 256) c.hash_behind.ensures)

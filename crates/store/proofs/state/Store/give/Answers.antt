@@ -14,7 +14,7 @@ returns-in-Ok g c =
     let strip = payload_of (standing cs x) in
     let h = c.in-Ok.ensures in
     record {
-      answer = given_strip g.Kind.Key.width s c.args.token space strip c.in-Ok.len c.moved-on.result (h.answer ∙ stands_answer cs x c.requires space) c.moved-on.ensures;
+      answer = given_strip g.Kind.Key.width s c.args.token space strip c.in-Ok.len c.moved_on.result (h.answer ∙ stands_answer cs x c.requires space) c.moved_on.ensures;
       buffer = h.buffer ∙ stands-filled cs x c.requires c.args.buffer.now;
     }
 

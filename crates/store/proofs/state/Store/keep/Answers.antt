@@ -19,20 +19,20 @@ returns-in-Err g c =
       whole = λ z. absurd (let y : ◌≡◌ {A = ℕ} 0 1 = cc in omega arith);
     }
 
-pub examine-tree-requires : goal.examine-tree-requires
-examine-tree-requires g c =
+pub examine_tree-requires : goal.examine_tree-requires
+examine_tree-requires g c =
     let s = model g.D.Device g.Kind.Key.bytes c.args.self.now in
     entered_space g.Kind.Key.width s c.args.name.now [] (length c.args.table.now) _ c.in-Ok.ensures
 
-pub returns-in-Ok-examine-tree : goal.returns-in-Ok-examine-tree
-returns-in-Ok-examine-tree g c =
+pub returns-in-Ok-examine_tree : goal.returns-in-Ok-examine_tree
+returns-in-Ok-examine_tree g c =
     let w = g.Kind.Key.width in
     let s = model g.D.Device g.Kind.Key.bytes c.args.self.now in
     let name = c.args.name.now in
     let root = g.Kind.Key.bytes c.args.root in
     let table = c.args.table.now in
     let h = c.in-Ok.ensures in
-    let t = c.in-Ok-examine-tree.ensures in
+    let t = c.in-Ok-examine_tree.ensures in
     record {
       answer = entered_answer w s name root (length table) _ h _ t.answer;
       after = kept_after w s name root (length table) _ h _ t.answer c.put.ensures;
@@ -40,15 +40,15 @@ returns-in-Ok-examine-tree g c =
       whole = λ z. kept_whole w s.contents root t.answer;
     }
 
-pub returns-in-Err-examine-tree : goal.returns-in-Err-examine-tree
-returns-in-Err-examine-tree g c =
+pub returns-in-Err-examine_tree : goal.returns-in-Err-examine_tree
+returns-in-Err-examine_tree g c =
     let w = g.Kind.Key.width in
     let s = model g.D.Device g.Kind.Key.bytes c.args.self.now in
     let name = c.args.name.now in
     let root = g.Kind.Key.bytes c.args.root in
     let table = c.args.table.now in
     let h = c.in-Ok.ensures in
-    let t = c.in-Err-examine-tree.ensures in
+    let t = c.in-Err-examine_tree.ensures in
     record {
       answer = entered_answer w s name root (length table) _ h _ t.answer;
       after = broken_after w s name root (length table) _ h _ t.answer;

@@ -27,6 +27,6 @@ returns-in-Ok g c =
       answer = passed_as untold (handed_back token) (token_tests w s token) _ c.in-Ok.field-0 _ h;
       after =
           c.recount.ensures
-          ∙ ap (λ n. keeping s (recounted n s.sheets token.sheet)) (c.saturating-sub.ensures ∙ ap (λ n. n - 1) c.readings-readings.ensures)
+          ∙ ap (λ n. keeping s (recounted n s.sheets token.sheet)) (c.saturating_sub.ensures ∙ ap (λ n. n - 1) c.readings-readings.ensures)
           ∙ passed_change untold (token_tests w s token) _ c.in-Ok.field-0 s _ h;
     }

@@ -14,14 +14,14 @@ returns-then-container-count g c =
 
 pub sweep-left-requires : goal.sweep-left-requires
 sweep-left-requires g c =
-    logged_seen _ _ _ _ _ _ _ c.args.self.now.good refl c.deref-mut.ensures.value
+    logged_seen _ _ _ _ _ _ _ c.args.self.now.good refl c.deref_mut.ensures.value
 
 pub invariant-of-self : goal.invariant-of-self
 invariant-of-self g c =
     let t = c.args.self.now in
     let kept = c.sweep-left.auto.bytes in
     let s = c.sweep-left.ensures in
-    let done = swept g.F.Key.width _ _ _ _ c.args.container _ _ _ _ _ _ t.good c.deref-mut.ensures.value kept (refill t.bytes _ _ c.deref-mut.ensures.value kept) (record { entries = s.entries; size = s.used; after = s.after }) in
+    let done = swept g.F.Key.width _ _ _ _ c.args.container _ _ _ _ _ _ t.good c.deref_mut.ensures.value kept (refill t.bytes _ _ c.deref_mut.ensures.value kept) (record { entries = s.entries; size = s.used; after = s.after }) in
     (∣ done.0 ∣₁, tt)
 
 pub returns : goal.returns
@@ -32,5 +32,5 @@ returns g c =
     let t = c.args.self.now in
     let kept = c.sweep-left.auto.bytes in
     let s = c.sweep-left.ensures in
-    let done = swept g.F.Key.width _ _ _ _ c.args.container _ _ _ _ _ _ t.good c.deref-mut.ensures.value kept (refill t.bytes _ _ c.deref-mut.ensures.value kept) (record { entries = s.entries; size = s.used; after = s.after }) in
+    let done = swept g.F.Key.width _ _ _ _ c.args.container _ _ _ _ _ _ t.good c.deref_mut.ensures.value kept (refill t.bytes _ _ c.deref_mut.ensures.value kept) (record { entries = s.entries; size = s.used; after = s.after }) in
     record { answer = cond_below _ _ _ _ inside; after = done.1 }

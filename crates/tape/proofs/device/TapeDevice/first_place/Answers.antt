@@ -13,15 +13,15 @@ inside g c = let a = c.loop-container-test.true in let b = c.count-container-end
 here : (g : given.Over) (c : goal.After-deref g) → let t = c.args.self.now in Here g.F.Key.width t.width t.containers t.entries c.loop-container.container (vec_items t.bytes)
 here g c = held_here _ _ _ _ _ _ (inside g c)
 
-pub first-in-requires : goal.first-in-requires
-first-in-requires g c = logged_seen _ _ _ _ _ _ _ c.args.self.now.good (here g c).same c.deref.ensures.value
+pub first_in-requires : goal.first_in-requires
+first_in-requires g c = logged_seen _ _ _ _ _ _ _ c.args.self.now.good (here g c).same c.deref.ensures.value
 
 pub loop-container-preserved : goal.loop-container-preserved
 loop-container-preserved g c =
     let d = (goal.at.loop-container-preserved g c).After-deref in
     let t = c.args.self.now in
     let k = c.loop-container.container in
-    let is = c.first-in.ensures ∙ ap (λ rs. place_among (g.F.Key.bytes c.args.fingerprint) k 0 rs None) (records_seen _ _ _ _ _ _ _ (here g d) c.deref.ensures.value) in
+    let is = c.first_in.ensures ∙ ap (λ rs. place_among (g.F.Key.bytes c.args.fingerprint) k 0 rs None) (records_seen _ _ _ _ _ _ _ (here g d) c.deref.ensures.value) in
     first_more (g.F.Key.bytes c.args.fingerprint) (held_by g.F.Key.width t) k c.loop-container.invariant (inside g d) _ is c.in-default.is
 
 pub returns-in-Some : goal.returns-in-Some
@@ -29,7 +29,7 @@ returns-in-Some g c =
     let d = (goal.at.returns-in-Some g c).After-deref in
     let t = c.args.self.now in
     let k = c.loop-container.container in
-    let is = c.first-in.ensures ∙ ap (λ rs. place_among (g.F.Key.bytes c.args.fingerprint) k 0 rs None) (records_seen _ _ _ _ _ _ _ (here g d) c.deref.ensures.value) in
+    let is = c.first_in.ensures ∙ ap (λ rs. place_among (g.F.Key.bytes c.args.fingerprint) k 0 rs None) (records_seen _ _ _ _ _ _ _ (here g d) c.deref.ensures.value) in
     first_here (g.F.Key.bytes c.args.fingerprint) (held_by g.F.Key.width t) k c.loop-container.invariant (inside g d) _ is _ c.in-Some.is
 
 pub returns : goal.returns

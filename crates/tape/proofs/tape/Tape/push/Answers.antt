@@ -29,10 +29,10 @@ space g c = push_space _ _ _ _ _ _ c.args.self.now.good (entry g c) c.requires.h
 pub overflow-cast-container : goal.overflow-cast-container
 overflow-cast-container g c = let small = push_small _ _ _ _ _ _ c.args.self.now.good (entry g c) c.requires.here (sound g c) c.requires.one c.requires.all in omega arith
 
-pub add-entry-requires : goal.add-entry-requires
-add-entry-requires g c =
+pub add_entry-requires : goal.add_entry-requires
+add_entry-requires g c =
     let r = space g c in
-    let l = ap length c.deref-mut.ensures.value in
+    let l = ap length c.deref_mut.ensures.value in
     record { space = omega arith; short = c.requires.short }
 
 pub overflow-add-self : goal.overflow-add-self
@@ -52,14 +52,14 @@ overflow-add-self-4 g c =
     let s = c.args.self.now.bytes.small in
     omega arith
 
-done : (g : given.Over) (c : goal.After-width g) → let t = c.args.self.now in let bs = vec_items (with_items t.bytes c.add-entry.new.bytes) in
+done : (g : given.Over) (c : goal.After-width g) → let t = c.args.self.now in let bs = vec_items (with_items t.bytes c.add_entry.new.bytes) in
     Good t.width t.containers (t.entries + 1) (t.used + (c.width.result + 4 + length c.args.payload.now)) bs
     × (held_at g.F.Key.width t.width t.containers (t.entries + 1) bs ≡ appended (held_by g.F.Key.width t) c.args.container (entry g (goal.at.invariant-of-self g c).After-deref-mut).stored)
 done g c =
     let d = (goal.at.invariant-of-self g c).After-deref-mut in
     let t = c.args.self.now in
-    let kept = c.add-entry.auto.bytes in
-    pushed _ _ _ _ _ _ t.good (entry g d) c.requires.here (sound g d) c.requires.one c.requires.all _ _ _ _ (ap (λ w. t.used + (w + 4 + length c.args.payload.now)) c.width.ensures) c.deref-mut.ensures.value kept (refill t.bytes _ _ c.deref-mut.ensures.value kept) c.add-entry.ensures
+    let kept = c.add_entry.auto.bytes in
+    pushed _ _ _ _ _ _ t.good (entry g d) c.requires.here (sound g d) c.requires.one c.requires.all _ _ _ _ (ap (λ w. t.used + (w + 4 + length c.args.payload.now)) c.width.ensures) c.deref_mut.ensures.value kept (refill t.bytes _ _ c.deref_mut.ensures.value kept) c.add_entry.ensures
 
 pub invariant-of-self : goal.invariant-of-self
 invariant-of-self g c = (∣ (done g c).0 ∣₁, tt)

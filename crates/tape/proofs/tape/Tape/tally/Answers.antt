@@ -5,8 +5,8 @@ use Rattle.tape.specs.Meaning.{held_by}
 use Rattle.tape.specs.Seen.{held_here, logged_seen, of_container_lem}
 use Rattle.tape.proofs.tape.Tape.tally.Goals as goal
 
-pub count-in-requires : goal.count-in-requires
-count-in-requires g c =
+pub count_in-requires : goal.count_in-requires
+count_in-requires g c =
     let t = c.args.self.now in
     logged_seen _ _ _ _ _ _ _ t.good refl c.deref.ensures.value
 
@@ -17,6 +17,6 @@ returns g c =
     let inside : c.args.container < length cs = (let a = c.if-container-seen.false in let b = c.seen.ensures in omega arith) in
     let here = held_here g.F.Key.width t.width t.containers t.entries c.args.container (vec_items t.bytes) inside in
     let rs = ap (λ bs. records_in c.args.container (log_of t.width t.entries bs)) c.deref.ensures.value ∙ sym here.records in
-    let n = c.count-in.ensures.records ∙ ap length rs in
-    let m = c.count-in.ensures.payload ∙ ap payload_bytes rs in
-    of_container_lem (λ x. record { records = length x; payload = payload_bytes x }) cs c.args.container c.count-in.result inside (λ i. record { records = n i; payload = m i })
+    let n = c.count_in.ensures.records ∙ ap length rs in
+    let m = c.count_in.ensures.payload ∙ ap payload_bytes rs in
+    of_container_lem (λ x. record { records = length x; payload = payload_bytes x }) cs c.args.container c.count_in.result inside (λ i. record { records = n i; payload = m i })
