@@ -1,7 +1,7 @@
 -- What holds of a device that is not refused.
 use Rattle.std.proofs.Common.{◌≡◌, ℕ, zero, suc, ◌<◌, ◌≤◌, Bool, true, false, cond, leb, List, [], ◌∷◌, length, Some, None, Ok, Option, refl, ⊎_elim, arith}
 use Rattle.std.proofs.lemmas.Bool.{and_parts, or_cases, leb-true, eqb-true}
-use Rattle.std.specs.List.{AllByRecursion as All}
+use Rattle.std.specs.List.{AllByRecursion}
 use Rattle.keys.specs.Little.{same_equal}
 use Rattle.records.specs.Records.{Rec, Contents}
 use Rattle.records.specs.Shapes.{Shape}
@@ -24,11 +24,11 @@ neither_when false b x y e = absurd (let z : ◌≡◌ {A = ℕ} 0 1 = cc in ome
 
 -- where a judge refuses nothing, what it sees to holds of every record
 module _ (judge : Place → Rec → Option Cause) (P : Rec → Type 0) (sees : (p : Place) (r : Rec) → judge p r ≡ None → P r) where
-  all_among : (c i : ℕ) (rs : List Rec) → refused_among judge c i rs ≡ None → All P rs
+  all_among : (c i : ℕ) (rs : List Rec) → refused_among judge c i rs ≡ None → AllByRecursion P rs
   all_among c i [] e = tt
   all_among c i (r ∷ rs) e = let s = none_both _ _ e in (sees _ r (none_told _ _ s.0), all_among c (suc i) rs s.1)
 
-  all_from : (c : ℕ) (cs : Contents) → refused_from judge c cs ≡ None → All (All P) cs
+  all_from : (c : ℕ) (cs : Contents) → refused_from judge c cs ≡ None → AllByRecursion (AllByRecursion P) cs
   all_from c [] e = tt
   all_from c (rs ∷ cs) e = let s = none_both _ _ e in (all_among c 0 rs s.0, all_from (suc c) cs s.1)
 

@@ -1,7 +1,7 @@
 -- When a store admits a device, and with which refusal it does not.
 use Rattle.std.specs.Prelude.{◌≡◌, ℕ, suc, ◌<◌, ◌≤◌, Bool, false, cond, ◌&&◌, ◌||◌, List, [], ◌∷◌, length, Some, None, Ok, Err, Option, Result, ◌==◌, nat_le}
 use Rattle.std.specs.Option.{option_or}
-use Rattle.std.specs.List.{AllByRecursion as All}
+use Rattle.std.specs.List.{AllByRecursion}
 use Rattle.records.specs.Records.{Rec, Contents}
 use Rattle.records.specs.Refusals.{untold, told_at}
 use Rattle.records.specs.Shapes.{Shape}
@@ -68,7 +68,7 @@ admission_answer w name cs = answer_by (option_or (wrong_size cs) (option_or (fi
 pub record Admitted (w : ℕ) (name : ℕ → List ℕ → List ℕ) (cs : Contents) : Type 0 where
   pub some : 2 ≤ length cs
   pub few : length cs ≤ 32
-  pub shaped : All (All (λ r. Shape w r.level (length r.payload))) cs
-  pub named : All (All (λ r. r.fingerprint ≡ name r.level r.payload)) cs
+  pub shaped : AllByRecursion (AllByRecursion (λ r. Shape w r.level (length r.payload))) cs
+  pub named : AllByRecursion (AllByRecursion (λ r. r.fingerprint ≡ name r.level r.payload)) cs
   pub single : Single cs
   pub free : (c : ℕ) × (c < length cs) × (records_of cs c ≡ [])

@@ -1,7 +1,7 @@
 -- A file of zero bytes has free containers, and a file's bytes are those of what it holds.
 use Rattle.std.proofs.Common.{◌≡◌, ℕ, zero, suc, ◌+◌, ◌-◌, ◌*◌, ◌≤◌, List, [], ◌++◌, length, take, replicate, vec_items, sym, refl, ap, ◌∙◌, subst, suc-mul, add_comm, zero-mul, arith}
 use Rattle.std.proofs.lemmas.List.{length-replicate, replicate-append-replicate, drop_all, append-nil, take_all}
-use Rattle.std.specs.List.{AllByRecursion as All}
+use Rattle.std.specs.List.{AllByRecursion}
 use Rattle.records.specs.Limits.{Stored, Limits}
 use Rattle.records.specs.Records.{Rec}
 use Rattle.container_format.specs.Layout.{container_size, file}
@@ -14,7 +14,7 @@ use Rattle.container_file.specs.declared.file.ContainerFile.{ContainerFile}
 use Rattle.container_file.proofs.Erasing.{zero_container, stored_none}
 use Rattle.container_file.specs.Held.{held_here, held_same, intact}
 
-free_stored : (w n : ℕ) → All (Stored w) (replicate n [])
+free_stored : (w n : ℕ) → AllByRecursion (Stored w) (replicate n [])
 free_stored w zero = tt
 free_stored w (suc n) = (stored_none w, free_stored w n)
 

@@ -4,7 +4,7 @@ use Rattle.std.proofs.Common.{sym, ap, ◌∙◌, subst, ⊎_elim, arith}
 use Rattle.std.proofs.ByRecursion.{All-weaker}
 use Rattle.std.proofs.lemmas.List.{get_or_past}
 use Rattle.std.proofs.lemmas.Bool.{eq-eqb, ne_eqb, cases_eq}
-use Rattle.std.specs.List.{AllByRecursion as All}
+use Rattle.std.specs.List.{AllByRecursion}
 use Rattle.records.specs.Limits.{Typed, Fits, Storable, Stored}
 use Rattle.records.specs.Records.{Rec, Contents, no_record}
 use Rattle.records.specs.declared.refusal.Place.{Place}
@@ -42,16 +42,16 @@ module _ {F : Type 0} (w : ℕ) (s : ContainerFile F) where
   intact = intact_from s.width s.count (vec_items s.bytes) s.intact
 
 -- what is stored is within the limits of any device
-pub held_stored : (w : ℕ) (cs : Contents) → All (Stored w) cs → Held w cs
+pub held_stored : (w : ℕ) (cs : Contents) → AllByRecursion (Stored w) cs → Held w cs
 held_stored w cs h = record {
   fits = All-weaker (Stored w) Fits (λ rs k. k.fits) cs h;
-  typed = All-weaker (Stored w) (All (Typed w)) (λ rs k. All-weaker (Storable w) (Typed w) (λ r t. t.typed) rs k.each) cs h;
+  typed = All-weaker (Stored w) (AllByRecursion (Typed w)) (λ rs k. All-weaker (Storable w) (Typed w) (λ r t. t.typed) rs k.each) cs h;
 }
 
 pub held-file : {F : Type 0} (w : ℕ) (s : ContainerFile F) → Held w (contents_of w s)
 held-file w s =
     ⊎_elim
-    (λ e. subst (Held w) (sym (held_same w s e)) (held_stored w (read_as s) (subst (λ v. All (Stored v) (read_as s)) e (intact w s).each)))
+    (λ e. subst (Held w) (sym (held_same w s e)) (held_stored w (read_as s) (subst (λ v. AllByRecursion (Stored v) (read_as s)) e (intact w s).each)))
     (λ ne. subst (Held w) (sym (held_none w s ne)) (record { fits = tt; typed = tt }))
     (cases_eq s.width w)
 

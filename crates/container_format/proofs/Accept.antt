@@ -1,6 +1,6 @@
 -- A container that is in order is written of what it reads as.
 use Rattle.std.proofs.Common.{◌≡◌, ℕ, zero, suc, ◌+◌, ◌-◌, ◌*◌, ◌<◌, ◌≤◌, List, [], ◌∷◌, ◌++◌, length, get_or, take, drop, replicate, sym, refl, ap, ◌∙◌, subst, suc-mul, add-mul, arith}
-use Rattle.std.specs.List.{AllByRecursion as All}
+use Rattle.std.specs.List.{AllByRecursion}
 use Rattle.std.proofs.lemmas.List.{append_assoc, drop-drop, drop_more, take-append-le, drop-append-le, get_or_append_left, take-append-drop, length-append, length-take-le, length-drop}
 use Rattle.std.proofs.ByRecursion.{All-take, All-drop}
 use Rattle.keys.specs.Octets.{little, number}
@@ -71,7 +71,7 @@ module _ (w off : ℕ) (es bs : List ℕ) (long : w + 8 ≤ length es) (body : o
       }
 
 pub record Accepting (w used k j off : ℕ) (es bs : List ℕ) : Type 0 where
-  pub each : All (Storable w) (read_records w k es bs)
+  pub each : AllByRecursion (Storable w) (read_records w k es bs)
   pub count : length (read_records w k es bs) ≡ k
   pub front : es ≡ entries off (read_records w k es bs) ++ replicate (j * (w + 8)) 0
   pub body : bs ≡ payloads (read_records w k es bs) ++ replicate (7168 - used) 0

@@ -1,6 +1,6 @@
 -- A file cut around one of its containers, and what stands there.
 use Rattle.std.proofs.Common.{◌≡◌, ℕ, zero, suc, ◌+◌, ◌-◌, ◌*◌, ◌<◌, ◌≤◌, List, [], ◌∷◌, ◌++◌, length, get_or, take, drop, set, replicate, sym, refl, ap, ◌∙◌, subst, le_trans, le_of_eq, mul-le-mul_right, suc-mul, add_comm, arith}
-use Rattle.std.specs.List.{AllByRecursion as All}
+use Rattle.std.specs.List.{AllByRecursion}
 use Rattle.std.proofs.lemmas.List.{append_assoc, take_at, drop_at, drop-drop, take-append-drop, length-append, length-take-le, length-drop, length-set}
 use Rattle.std.proofs.ByRecursion.{All-take, All-get_or, All-set}
 use Rattle.keys.specs.Octets.{little, number}
@@ -30,7 +30,7 @@ file-set w [] c rs h = absurd (omega arith)
 file-set w (x ∷ cs) zero rs h = refl
 file-set w (x ∷ cs) (suc c) rs h = ap (λ y. container_bytes w x ++ y) (file-set w cs c rs (omega arith)) ∙ sym (append_assoc (container_bytes w x) _ _)
 
-pub length-file : (w : ℕ) (cs : Contents) → All (Stored w) cs → length (file w cs) ≡ length cs * container_size w
+pub length-file : (w : ℕ) (cs : Contents) → AllByRecursion (Stored w) cs → length (file w cs) ≡ length cs * container_size w
 length-file w [] h = omega arith
 length-file w (c ∷ cs) h =
     let a = length_container w c h.0 in
@@ -43,7 +43,7 @@ length-read_file w zero bs = refl
 length-read_file w (suc n) bs = ap suc (length-read_file w n (drop (container_size w) bs))
 
 -- a file reads back, whatever lies behind it
-pub reads_behind : (w : ℕ) (cs : Contents) (z : List ℕ) → All (Stored w) cs → read_file w (length cs) (file w cs ++ z) ≡ cs
+pub reads_behind : (w : ℕ) (cs : Contents) (z : List ℕ) → AllByRecursion (Stored w) cs → read_file w (length cs) (file w cs ++ z) ≡ cs
 reads_behind w [] z h = refl
 reads_behind w (c ∷ cs) z h =
     let l = length_container w c h.0 in
@@ -54,7 +54,7 @@ reads_behind w (c ∷ cs) z h =
     let t = reads_behind w cs z h.1 in
     cc
 
-pub intact_made : (w n : ℕ) (cs : Contents) (z : List ℕ) → All (Stored w) cs → length cs ≡ n → n ≤ 32 → w ≤ 20 → (1 ≤ n → (2 ≤ n) × (length z ≡ 0)) → Intact w n (file w cs ++ z)
+pub intact_made : (w n : ℕ) (cs : Contents) (z : List ℕ) → AllByRecursion (Stored w) cs → length cs ≡ n → n ≤ 32 → w ≤ 20 → (1 ≤ n → (2 ≤ n) × (length z ≡ 0)) → Intact w n (file w cs ++ z)
 intact_made w n cs z h l few narrow exact =
     let f : length (file w cs) ≡ n * container_size w = length-file w cs h ∙ ap (λ j. j * container_size w) l in
     let r : read_file w n (file w cs ++ z) ≡ cs = ap (λ j. read_file w j (file w cs ++ z)) (sym l) ∙ reads_behind w cs z h in
@@ -64,7 +64,7 @@ intact_made w n cs z h l few narrow exact =
       long = (let a = length-append (file w cs) z in omega arith);
       exact = λ some. let a = length-append (file w cs) z in ((exact some).0, let b = (exact some).1 in omega arith);
       bytes = take_at (file w cs) z (n * container_size w) f ∙ ap (file w) (sym r);
-      each = subst (All (Stored w)) (sym r) h;
+      each = subst (AllByRecursion (Stored w)) (sym r) h;
     }
 
 -- an intact file around the container c
@@ -95,7 +95,7 @@ around w n c bs g h =
       stored = All-get_or (Stored w) cs c [] h' g.each;
       other = λ rs f.
           let ds = set cs c rs in
-          let fits : All (Stored w) ds = All-set (Stored w) cs c rs f g.each in
+          let fits : AllByRecursion (Stored w) ds = All-set (Stored w) cs c rs f g.each in
           let ld : length ds ≡ n = length-set cs c rs ∙ l in
           let e : file w ds ++ z ≡ p ++ (container_bytes w rs ++ q) = ap (λ y. y ++ z) (file-set w cs c rs h') ∙ simp append_assoc in
           let P : List ℕ → Type 0 = λ y. Intact w n y × (read_file w n y ≡ ds) in

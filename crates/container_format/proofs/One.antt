@@ -1,7 +1,7 @@
 -- Every list of containers within the limits has exactly one file.
 use Rattle.std.proofs.Common.{ℕ, zero, suc, ◌+◌, ◌-◌, ◌*◌, ◌<◌, List, [], ◌∷◌, ◌++◌, length, replicate, ap, ◌∙◌, arith}
 use Rattle.std.proofs.ByRecursion.{All-append}
-use Rattle.std.specs.List.{AllByRecursion as All}
+use Rattle.std.specs.List.{AllByRecursion}
 use Rattle.keys.specs.Octets.{Bytes, little}
 use Rattle.keys.specs.Little.{bytes-little}
 use Rattle.records.specs.Limits.{Storable, Stored}
@@ -19,7 +19,7 @@ bytes_zeros : (n : ℕ) → Bytes (replicate n 0)
 bytes_zeros zero = tt
 bytes_zeros (suc n) = (omega arith, bytes_zeros n)
 
-bytes-entries : (w off : ℕ) (rs : List Rec) → All (Storable w) rs → Bytes (entries off rs)
+bytes-entries : (w off : ℕ) (rs : List Rec) → AllByRecursion (Storable w) rs → Bytes (entries off rs)
 bytes-entries w off [] h = tt
 bytes-entries w off (r ∷ rs) h =
     let level = h.0.level in
@@ -28,7 +28,7 @@ bytes-entries w off (r ∷ rs) h =
     (omega arith, (omega arith, joins (little 2 (length r.payload)) (little 4 off) (bytes-little 2 (length r.payload)) (bytes-little 4 off))))
     (bytes-entries w (off + length r.payload) rs h.1)
 
-bytes-payloads : (w : ℕ) (rs : List Rec) → All (Storable w) rs → Bytes (payloads rs)
+bytes-payloads : (w : ℕ) (rs : List Rec) → AllByRecursion (Storable w) rs → Bytes (payloads rs)
 bytes-payloads w [] h = tt
 bytes-payloads w (r ∷ rs) h = joins r.payload (payloads rs) h.0.typed.payload (bytes-payloads w rs h.1)
 
@@ -45,7 +45,7 @@ bytes_container w rs h =
     let d : Bytes gap = joins (replicate 12 0) table (bytes_zeros 12) c in
     joins (little 2 (length rs)) (little 2 (length (payloads rs)) ++ gap) (bytes-little 2 (length rs)) (joins (little 2 (length (payloads rs))) gap (bytes-little 2 (length (payloads rs))) d)
 
-bytes-file : (w : ℕ) (cs : Contents) → All (Stored w) cs → Bytes (file w cs)
+bytes-file : (w : ℕ) (cs : Contents) → AllByRecursion (Stored w) cs → Bytes (file w cs)
 bytes-file w [] h = tt
 bytes-file w (rs ∷ cs) h = joins (container_bytes w rs) (file w cs) (bytes_container w rs h.0) (bytes-file w cs h.1)
 

@@ -4,13 +4,13 @@ use mathlib.Core.List.{is_set}
 use mathlib.Core.Logic.{∥∥₁_elim}
 use native.Mathlib.Nat.{ℕ_set}
 use native.Mathlib.Bridge.{le_prop}
-use Rattle.std.specs.List.{AllByRecursion as All}
+use Rattle.std.specs.List.{AllByRecursion}
 use Rattle.keys.specs.Octets.{Bytes}
 use Rattle.records.specs.Limits.{Typed, Storable, Fits, Stored}
 use Rattle.records.specs.Records.{Rec}
 use Rattle.container_format.specs.Checking.{Intact}
 
-prop_all : {X : Type 0} (P : X → Type 0) → ((x : X) → IsProp (P x)) → (xs : List X) → IsProp (All P xs)
+prop_all : {X : Type 0} (P : X → Type 0) → ((x : X) → IsProp (P x)) → (xs : List X) → IsProp (AllByRecursion P xs)
 prop_all P h [] = λ a b. refl
 prop_all P h (x ∷ xs) = λ a b i. (h x a.0 b.0 i, prop_all P h xs a.1 b.1 i)
 

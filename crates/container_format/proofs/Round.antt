@@ -1,6 +1,6 @@
 -- A file reads back as what it was written from.
 use Rattle.std.proofs.Common.{◌≡◌, ℕ, ◌+◌, ◌-◌, ◌*◌, ◌≤◌, List, [], ◌∷◌, ◌++◌, length, get_or, take, drop, replicate, sym, refl, ap, ◌∙◌, suc-mul, add-mul, arith}
-use Rattle.std.specs.List.{AllByRecursion as All}
+use Rattle.std.specs.List.{AllByRecursion}
 use Rattle.std.proofs.lemmas.List.{append_assoc, take_at, drop_at, get_or_at, drop-drop, length-append, length-replicate}
 use Rattle.keys.specs.Octets.{little, number}
 use Rattle.keys.specs.Little.{number-little}
@@ -17,7 +17,7 @@ length-payloads (r ∷ rs) = length-append r.payload (payloads rs) ∙ ap (λ n.
 pub used_fits : (w : ℕ) (rs : List Rec) → Stored w rs → length (payloads rs) ≤ 7168
 used_fits w rs h = let e = length-payloads rs in let b = h.fits.bytes in omega arith
 
-pub stored_from : (w : ℕ) (rs : List Rec) → length rs ≤ 63 → length (payloads rs) ≤ 7168 → All (Storable w) rs → Stored w rs
+pub stored_from : (w : ℕ) (rs : List Rec) → length rs ≤ 63 → length (payloads rs) ≤ 7168 → AllByRecursion (Storable w) rs → Stored w rs
 stored_from w rs count used each = let e = length-payloads rs in record { fits = record { count = count; bytes = omega arith }; each = each }
 
 -- an entry with what follows it, the appends to the right
@@ -47,7 +47,7 @@ module _ (w : ℕ) (r : Rec) (off : ℕ) (rest : List ℕ) (fits : Storable w r)
       let d : take (length_in w (laid r off rest)) (r.payload ++ bs) ≡ r.payload = take_at r.payload bs _ (sym length-laid) in
       λ i. record { level = a i; fingerprint = b i; payload = d i }
 
-pub read_entries : (w : ℕ) (rs : List Rec) (off : ℕ) (z y : List ℕ) → All (Storable w) rs → read_records w (length rs) (entries off rs ++ z) (payloads rs ++ y) ≡ rs
+pub read_entries : (w : ℕ) (rs : List Rec) (off : ℕ) (z y : List ℕ) → AllByRecursion (Storable w) rs → read_records w (length rs) (entries off rs ++ z) (payloads rs ++ y) ≡ rs
 read_entries w [] off z y h = refl
 read_entries w (r ∷ rs) off z y h =
     let rest = entries (off + length r.payload) rs ++ z in
@@ -64,7 +64,7 @@ read_entries w (r ∷ rs) off z y h =
 pub length-entry : (w off : ℕ) (r : Rec) → Storable w r → length (entry off r) ≡ w + 8
 length-entry w off r fits = let e = fits.typed.wide in simp length-append (omega arith)
 
-pub length-entries : (w off : ℕ) (rs : List Rec) → All (Storable w) rs → length (entries off rs) ≡ length rs * (w + 8)
+pub length-entries : (w off : ℕ) (rs : List Rec) → AllByRecursion (Storable w) rs → length (entries off rs) ≡ length rs * (w + 8)
 length-entries w off [] h = omega arith
 length-entries w off (r ∷ rs) h =
     let a = length-entry w off r h.0 in
@@ -128,7 +128,7 @@ module _ (w : ℕ) (rs : List Rec) (fits : Stored w rs) where
       let n = used_fits w rs fits in
       simp (length-append, length-replicate) (omega arith)
 
-pub reads_back : (w : ℕ) (cs : Contents) → All (Stored w) cs → read_file w (length cs) (file w cs) ≡ cs
+pub reads_back : (w : ℕ) (cs : Contents) → AllByRecursion (Stored w) cs → read_file w (length cs) (file w cs) ≡ cs
 reads_back w [] h = refl
 reads_back w (c ∷ cs) h =
     let l = length_container w c h.0 in

@@ -1,7 +1,7 @@
 -- What the check accepts is a file, and what it refuses is none.
 use Rattle.std.proofs.Common.{◌≡◌, ℕ, zero, suc, ◌+◌, ◌-◌, ◌*◌, ◌/◌, ◌<◌, ◌≤◌, List, [], ◌∷◌, ◌++◌, length, get_or, take, drop, replicate, Err, sym, refl, ap, ◌∙◌, subst, inl, inr, suc-mul, arith}
 use native.Mathlib.Nat.{eq_of_mul-eq-mul_right, mul-div_left}
-use Rattle.std.specs.List.{AllByRecursion as All}
+use Rattle.std.specs.List.{AllByRecursion}
 use Rattle.std.proofs.lemmas.List.{append_assoc, append-nil, take_at, drop_at, get_or_at, get_or-drop, length-append, length-drop, length-take-le, take-append-drop}
 use Rattle.std.proofs.ByRecursion.{All-take, All-drop}
 use Rattle.keys.specs.Octets.{number}
@@ -35,7 +35,7 @@ entry_ok w r off rest f space =
     let c = f.few in
     record { level = omega arith; gap = z; some = omega arith; few = omega arith; offset = ap (λ y. number (take 4 y)) (from_w w r off rest f 4) ∙ number-little 4 off (omega (arith, space)); space = omega arith }
 
-entries_ok : (w used off : ℕ) (rs : List Rec) (z y : List ℕ) → All (Storable w) rs → off + length (payloads rs) ≡ used → used ≤ 7168 → Zeros z → Zeros y → EntriesOk w used (length rs) off (entries off rs ++ z) (payloads rs ++ y)
+entries_ok : (w used off : ℕ) (rs : List Rec) (z y : List ℕ) → AllByRecursion (Storable w) rs → off + length (payloads rs) ≡ used → used ≤ 7168 → Zeros z → Zeros y → EntriesOk w used (length rs) off (entries off rs ++ z) (payloads rs ++ y)
 entries_ok w used off [] z y h sum few zz zy = (omega arith, zz, zy)
 entries_ok w used off (r ∷ rs) z y h sum few zz zy =
     let rest = entries (off + length r.payload) rs ++ z in
@@ -71,7 +71,7 @@ accepted w rs f =
     record { header = record { count = omega arith; zeros = header_zeros w rs }; entries = subst (λ X. X) same t }
 
 -- slots in order are the file of what they read as
-pub containers_file : (w n : ℕ) (bs : List ℕ) → Bytes bs → length bs ≡ n * container_size w → ContainersOk w n bs → (bs ≡ file w (read_file w n bs)) × All (Stored w) (read_file w n bs)
+pub containers_file : (w n : ℕ) (bs : List ℕ) → Bytes bs → length bs ≡ n * container_size w → ContainersOk w n bs → (bs ≡ file w (read_file w n bs)) × AllByRecursion (Stored w) (read_file w n bs)
 containers_file w zero [] b l ok = (refl, tt)
 containers_file w zero (x ∷ xs) b l ok = absurd (omega arith)
 containers_file w (suc n) bs b l ok =
@@ -85,7 +85,7 @@ containers_file w (suc n) bs b l ok =
     (sym (take-append-drop S bs) ∙ (λ i. sym a.0 i ++ t.0 i), (a.1, t.1))
 
 -- and a file's slots are in order
-pub file_containers : (w : ℕ) (cs : Contents) → All (Stored w) cs → ContainersOk w (length cs) (file w cs)
+pub file_containers : (w : ℕ) (cs : Contents) → AllByRecursion (Stored w) cs → ContainersOk w (length cs) (file w cs)
 file_containers w [] h = tt
 file_containers w (c ∷ cs) h =
     let l = length_container w c h.0 in
@@ -94,7 +94,7 @@ file_containers w (c ∷ cs) h =
     (subst (ContainerOk w) (sym a) (accepted w c h.0), subst (ContainersOk w (length cs)) (sym b) (file_containers w cs h.1))
 
 -- two lists with one file are one
-pub one_list : (w : ℕ) (cs ds : Contents) → All (Stored w) cs → All (Stored w) ds → file w cs ≡ file w ds → cs ≡ ds
+pub one_list : (w : ℕ) (cs ds : Contents) → AllByRecursion (Stored w) cs → AllByRecursion (Stored w) ds → file w cs ≡ file w ds → cs ≡ ds
 one_list w cs ds hc hd e =
     let l : length cs * container_size w ≡ length ds * container_size w = sym (length-file w cs hc) ∙ ap length e ∙ length-file w ds hd in
     let n : length cs ≡ length ds = eq_of_mul-eq-mul_right (container_size w) (omega arith) (length cs) (length ds) l in

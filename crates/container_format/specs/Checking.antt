@@ -1,6 +1,6 @@
 -- What the check of a file finds out, byte by byte and as a whole.
 use Rattle.std.specs.Prelude.{◌≡◌, ℕ, zero, suc, ◌+◌, ◌*◌, ◌≤◌, ◌⊎◌, List, length, take, drop, Ok, Err, Result, ◌≢◌, slice_index_or}
-use Rattle.std.specs.List.{AllByRecursion as All}
+use Rattle.std.specs.List.{AllByRecursion}
 use Rattle.keys.specs.Octets.{Bytes, number}
 use Rattle.records.specs.Limits.{Stored, Limits}
 use Rattle.records.specs.Records.{Contents}
@@ -37,7 +37,7 @@ Checked w bs (Err e) = NoFile w bs × ((Numbered 1 e × NoCount w (length bs)) �
 
 -- all bytes are zero
 abbrev pub Zeros : List ℕ → Type 0
-Zeros bs = All (λ b. b ≡ 0) bs
+Zeros bs = AllByRecursion (λ b. b ≡ 0) bs
 
 -- the entry at the front of es is in order, where its payload is to lie at `off`
 pub record EntryOk (w off : ℕ) (es : List ℕ) : Type 0 where
@@ -75,7 +75,7 @@ pub record Intact (w n : ℕ) (bs : List ℕ) : Type 0 where
   pub long : n * container_size w ≤ length bs
   pub exact : 1 ≤ n → (2 ≤ n) × (length bs ≡ n * container_size w)
   pub bytes : take (n * container_size w) bs ≡ file w (read_file w n bs)
-  pub each : All (Stored w) (read_file w n bs)
+  pub each : AllByRecursion (Stored w) (read_file w n bs)
 
 -- bytes that follow the layout, entry by entry, and read as the list cs
 pub record FileOf (w : ℕ) (cs : Contents) (bs : List ℕ) : Type 0 where

@@ -2,7 +2,7 @@
 use Rattle.std.proofs.Common.{◌≡◌, ℕ, zero, suc, ◌+◌, ◌<◌, ◌≤◌, List, [], ◌∷◌, ◌++◌, length, get_or, take, replicate, Ok, Err, Result, refl, ap, ◌∙◌, arith}
 use Rattle.std.proofs.ByRecursion.{All-get_or}
 use Rattle.std.proofs.lemmas.List.{length-set, length-replicate, get_or-set_same, get_or-replicate, length-take-le}
-use Rattle.std.specs.List.{AllByRecursion as All}
+use Rattle.std.specs.List.{AllByRecursion}
 use Rattle.records.specs.Limits.{Storable, Stored}
 use Rattle.records.specs.Records.{Rec, Contents, no_record, payload_bytes}
 use Rattle.records.specs.declared.refusal.Refusal.{Refusal}
@@ -32,7 +32,7 @@ bytes_take (r ∷ rs) zero h = omega arith
 bytes_take (r ∷ rs) (suc i) h = let t = bytes_take rs i (omega arith) in omega arith
 
 -- so no record is refused
-none_stopped : (w : ℕ) (cs : Contents) (k i : ℕ) (e : Refusal) (es : Contents) → All (Stored w) cs → k < length cs → StoppedAt (records_of cs k) (stacked (replicate (length cs) []) (take k cs)) k i e es → ⊥
+none_stopped : (w : ℕ) (cs : Contents) (k i : ℕ) (e : Refusal) (es : Contents) → AllByRecursion (Stored w) cs → k < length cs → StoppedAt (records_of cs k) (stacked (replicate (length cs) []) (take k cs)) k i e es → ⊥
 none_stopped w cs k i e es stored here stop =
     let rs = records_of cs k in
     let ds : Contents = replicate (length cs) [] in
@@ -57,6 +57,6 @@ none_stopped w cs k i e es stored here stop =
     let z : ◌≡◌ {A = ℕ} 0 1 = cc in
     omega arith
 
-pub moved_fresh : (w : ℕ) (cs : Contents) (r : Result (Unit {0}) Refusal) (es : Contents) → All (Stored w) cs → MovedAll cs (replicate (length cs) []) r es → (r ≡ Ok tt) × (es ≡ cs)
+pub moved_fresh : (w : ℕ) (cs : Contents) (r : Result (Unit {0}) Refusal) (es : Contents) → AllByRecursion (Stored w) cs → MovedAll cs (replicate (length cs) []) r es → (r ≡ Ok tt) × (es ≡ cs)
 moved_fresh w cs (Ok x) es stored m = (refl, m ∙ stacked_free cs)
 moved_fresh w cs (Err e) es stored m = absurd (none_stopped w cs m.0 m.2.0 e es stored m.1 m.2.1)

@@ -3,7 +3,7 @@ use Rattle.std.proofs.Common.{◌≡◌, ℕ, zero, suc, ◌<◌, ◌≤◌, con
 use Rattle.std.proofs.ByRecursion.{All-get_or}
 use Rattle.std.proofs.lemmas.List.{get_or_past}
 use Rattle.std.proofs.lemmas.Bool.{cases_lt, lt-ltb}
-use Rattle.std.specs.List.{AllByRecursion as All}
+use Rattle.std.specs.List.{AllByRecursion}
 use Rattle.records.specs.Limits.{Typed, Fits}
 use Rattle.records.specs.Records.{Rec, Contents, no_record, payload_bytes}
 use Rattle.records.specs.Refusals.{untold}
@@ -23,7 +23,7 @@ few_records w cs c h =
 pub typed_at : (w : ℕ) (cs : Contents) (p : Place) → Held w cs → p.index < length (records_of cs p.container) → Typed w (record_at cs p)
 typed_at w cs p h inside =
     ⊎_elim
-    (λ here. All-get_or (Typed w) (records_of cs p.container) p.index no_record inside (All-get_or (All (Typed w)) cs p.container [] here h.typed))
+    (λ here. All-get_or (Typed w) (records_of cs p.container) p.index no_record inside (All-get_or (AllByRecursion (Typed w)) cs p.container [] here h.typed))
     (λ past. absurd (let e = ap length (get_or_past cs p.container [] past) in omega arith))
     (cases_lt p.container (length cs))
 

@@ -1,6 +1,6 @@
 -- What a device's questions answer, by what its containers hold.
 use Rattle.std.specs.Prelude.{ℕ, cond, List, [], ◌++◌, length, drop, is_ok, Ok, Err, Result, nat_le, nat_lt, slice_index_or}
-use Rattle.std.specs.List.{AllByRecursion as All}
+use Rattle.std.specs.List.{AllByRecursion}
 use Rattle.records.specs.Limits.{Typed, Fits}
 use Rattle.records.specs.Records.{Rec, Contents, no_record}
 use Rattle.records.specs.Refusals.{untold}
@@ -10,8 +10,8 @@ use Rattle.records.specs.declared.refusal.Refusal.{Refusal}
 
 -- what is true of every device at all times, where fingerprints have w bytes: no container is over its limits
 pub record Held (w : ℕ) (cs : Contents) : Type 0 where
-  pub fits : All Fits cs
-  pub typed : All (All (Typed w)) cs
+  pub fits : AllByRecursion Fits cs
+  pub typed : AllByRecursion (AllByRecursion (Typed w)) cs
 
 -- the records of a container; none where there is no such container
 abbrev pub records_of : Contents → ℕ → List Rec

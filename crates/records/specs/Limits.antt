@@ -1,6 +1,6 @@
 -- How much a record and a container may hold, and how many containers there may be.
 use Rattle.std.specs.Prelude.{◌≡◌, ℕ, ◌≤◌, List, length}
-use Rattle.std.specs.List.{AllByRecursion as All}
+use Rattle.std.specs.List.{AllByRecursion}
 use Rattle.keys.specs.Octets.{Bytes}
 use Rattle.records.specs.Records.{Rec, Contents, payload_bytes}
 
@@ -25,10 +25,10 @@ pub record Fits (rs : List Rec) : Type 0 where
 -- a container of records that may be stored
 pub record Stored (w : ℕ) (rs : List Rec) : Type 0 where
   pub fits : Fits rs
-  pub each : All (Storable w) rs
+  pub each : AllByRecursion (Storable w) rs
 
 -- what a container file may hold: 2 to 32 such containers
 pub record Limits (w : ℕ) (cs : Contents) : Type 0 where
   pub some : 2 ≤ length cs
   pub few : length cs ≤ 32
-  pub each : All (Stored w) cs
+  pub each : AllByRecursion (Stored w) cs

@@ -1,6 +1,6 @@
 -- What the finding of an examination says by the tests of a tree.
 use Rattle.std.proofs.Common.{◌≡◌, ℕ, zero, suc, ◌+◌, ◌*◌, ◌<◌, ◌≤◌, Bool, true, false, cond, not, eqb, List, [], ◌∷◌, ◌++◌, length, Some, None, Ok, Err, Option, Result, sym, refl, ap, ◌∙◌, ⊎_elim, arith, length-append}
-use Rattle.std.specs.List.{AllByRecursion as All}
+use Rattle.std.specs.List.{AllByRecursion}
 use Rattle.std.proofs.lemmas.Bool.{cases_Bool, ne_eqb, eq-eqb}
 use Rattle.records.specs.Limits.{Fits}
 use Rattle.records.specs.Records.{Rec, Contents}
@@ -18,7 +18,7 @@ use Rattle.walks.specs.declared.finding.Finding.TheVariants.{Broken, NoRoot as F
 use Rattle.store.specs.Keeping.{tree_answer}
 
 -- a device has at most 63 records for each container
-pub few_all : (cs : Contents) → All Fits cs → length (all cs) ≤ 63 * length cs
+pub few_all : (cs : Contents) → AllByRecursion Fits cs → length (all cs) ≤ 63 * length cs
 few_all [] h = omega arith
 few_all (b ∷ cs) h = omega (arith, length-append b (all cs), few_all cs h.1, h.0.count)
 

@@ -2,7 +2,7 @@
 use Rattle.std.specs.Prelude.{◌≡◌, ℕ, zero, suc, ◌+◌, ◌-◌, ◌≤◌, Bool, true, cond, leb, List, [], ◌∷◌, ◌++◌, length, take, drop, Some, None, nat_le, refl}
 use Rattle.std.proofs.Common.{sym, ap, subst, ◌∙◌, arith}
 use borrow.Rule.Slice.PartMut.{put_mid}
-use Rattle.std.specs.List.{AllByRecursion as All}
+use Rattle.std.specs.List.{AllByRecursion}
 use Rattle.std.proofs.lemmas.List.{append_assoc, append-nil, take_at, drop_at, drop-drop, drop_all, take_rest, length-append, length-drop}
 use Rattle.std.proofs.lemmas.Bool.{le-leb}
 use Rattle.keys.specs.Octets.{little}
@@ -50,21 +50,21 @@ drop-laid w e rest s =
     ∙ past_entry w e rest s
 
 -- a log before some bytes
-pub length_log : (w : ℕ) (es : List Entry) (rest : List ℕ) → All (Sound w) es → length (log_before es rest) ≡ log_size w es + length rest
+pub length_log : (w : ℕ) (es : List Entry) (rest : List ℕ) → AllByRecursion (Sound w) es → length (log_before es rest) ≡ log_size w es + length rest
 length_log w [] rest h = omega arith
 length_log w (e ∷ es) rest h =
     let t = length_log w es rest h.1 in
     let a = length-laid w e (log_before es rest) h.0 in
     omega arith
 
-pub log_read : (w : ℕ) (es : List Entry) (rest : List ℕ) → All (Sound w) es → log_of w (length es) (log_before es rest) ≡ es
+pub log_read : (w : ℕ) (es : List Entry) (rest : List ℕ) → AllByRecursion (Sound w) es → log_of w (length es) (log_before es rest) ≡ es
 log_read w [] rest h = refl
 log_read w (e ∷ es) rest h =
     let p : log_of w (length es) (drop (length_at (laid_before e (log_before es rest))) (drop w (drop 4 (laid_before e (log_before es rest))))) ≡ es = ap (log_of w (length es)) (past_entry w e (log_before es rest) h.0) ∙ log_read w es rest h.1 in
     let q = entry_read w e (log_before es rest) h.0 in
     λ i. q i ∷ p i
 
-pub drop_log : (w : ℕ) (es : List Entry) (rest : List ℕ) → All (Sound w) es → drop (log_size w es) (log_before es rest) ≡ rest
+pub drop_log : (w : ℕ) (es : List Entry) (rest : List ℕ) → AllByRecursion (Sound w) es → drop (log_size w es) (log_before es rest) ≡ rest
 drop_log w [] rest h = refl
 drop_log w (e ∷ es) rest h =
     sym (drop-drop (log_size w es) (entry_size w e) (log_before (e ∷ es) rest))
@@ -91,7 +91,7 @@ size_join w [] fs = omega arith
 size_join w (e ∷ es) fs = let t = size_join w es fs in omega arith
 
 -- what stands before the bytes behind a log
-pub take_log : (w : ℕ) (es : List Entry) (xs : List ℕ) → All (Sound w) es → take (log_size w es) (log_before es xs) ≡ log_before es []
+pub take_log : (w : ℕ) (es : List Entry) (xs : List ℕ) → AllByRecursion (Sound w) es → take (log_size w es) (log_before es xs) ≡ log_before es []
 take_log w es xs h =
     ap (take (log_size w es)) (log_append es xs) ∙ take_at (log_before es []) xs (log_size w es) (length_log w es [] h ∙ omega arith)
 
@@ -100,7 +100,7 @@ length-log_of w zero bs = refl
 length-log_of w (suc k) bs = ap suc (length-log_of w k (drop (length_at bs) (drop w (drop 4 bs))))
 
 -- bytes that begin with a log are read as it
-pub logged : (w k : ℕ) (es : List Entry) (rest bs : List ℕ) → length es ≡ k → All (Sound w) es → bs ≡ log_before es rest → (log_of w k bs ≡ es) × Logged w k bs
+pub logged : (w k : ℕ) (es : List Entry) (rest bs : List ℕ) → length es ≡ k → AllByRecursion (Sound w) es → bs ≡ log_before es rest → (log_of w k bs ≡ es) × Logged w k bs
 logged w k es rest bs n h e =
     let same : log_of w k bs ≡ es = (λ i. log_of w (sym n i) (e i)) ∙ log_read w es rest h in
     let l : length bs ≡ log_size w es + length rest = ap length e ∙ length_log w es rest h in
@@ -110,7 +110,7 @@ logged w k es rest bs n h e =
       record {
         space = omega arith;
         whole = (λ i. log_before (same i) (d i)) ∙ sym e;
-        each = subst (All (Sound w)) (sym same) h;
+        each = subst (AllByRecursion (Sound w)) (sym same) h;
       },
     )
 

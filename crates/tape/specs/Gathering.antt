@@ -1,7 +1,7 @@
 -- What the containers of a log hold, and what an entry more or a container less makes of it.
 use Rattle.std.specs.Prelude.{◌≡◌, ℕ, zero, suc, ◌+◌, ◌*◌, ◌<◌, ◌≤◌, Bool, true, false, cond, not, List, [], ◌∷◌, ◌++◌, map, length, get_or, take, replicate, ◌==◌, ◌≢◌, slice_index_or, slice_set, refl}
 use Rattle.std.proofs.Common.{sym, ap, subst, ◌∙◌, ⊎_elim, suc-mul, zero-mul, mul-le-mul_right, arith}
-use Rattle.std.specs.List.{range_with_len, AllByRecursion as All}
+use Rattle.std.specs.List.{range_with_len, AllByRecursion}
 use Rattle.std.proofs.lemmas.List.FromFn.{length-map-range_with_len, get_or-map-range_with_len}
 use Rattle.std.proofs.ByRecursion.{All-from_get_or}
 use Rattle.std.proofs.lemmas.List.{ext_get_or, get_or-set_same, get_or-set_other, length-set, append-nil}
@@ -18,7 +18,7 @@ pub get_or-gathered : (n c : ℕ) (es : List Entry) → c < n → slice_index_or
 get_or-gathered n c es h = get_or-map-range_with_len (λ c. records_in c es) 0 n c c [] h (omega arith)
 
 -- what holds of the records of every container
-pub all-gathered : (P : List Rec → Type 0) (n : ℕ) (es : List Entry) → ((c : ℕ) → c < n → P (records_in c es)) → All P (gathered n es)
+pub all-gathered : (P : List Rec → Type 0) (n : ℕ) (es : List Entry) → ((c : ℕ) → c < n → P (records_in c es)) → AllByRecursion P (gathered n es)
 all-gathered P n es h =
     All-from_get_or P (gathered n es) [] (λ c k. let k' : c < n = (let l = length-gathered n es in omega arith) in subst P (sym (get_or-gathered n c es k')) (h c k'))
 
@@ -94,13 +94,13 @@ gathered_none n = none 0 n where
   none a (suc n) = ap (λ x. [] ∷ x) (none (a + 1) n)
 
 -- the records of a sound log are typed
-pub typed_records : (w c : ℕ) (es : List Entry) → All (Sound w) es → All (Typed w) (records_in c es)
+pub typed_records : (w c : ℕ) (es : List Entry) → AllByRecursion (Sound w) es → AllByRecursion (Typed w) (records_in c es)
 typed_records w c [] h = tt
 typed_records w c (e ∷ es) h =
     let t = typed_records w c es h.1 in
     ⊎_elim
-    (λ p. subst (All (Typed w)) (sym (records_one c e es p)) (h.0.typed, t))
-    (λ p. subst (All (Typed w)) (sym (records_skip c e es p)) t)
+    (λ p. subst (AllByRecursion (Typed w)) (sym (records_one c e es p)) (h.0.typed, t))
+    (λ p. subst (AllByRecursion (Typed w)) (sym (records_skip c e es p)) t)
     (cases_eq e.container c)
 
 -- what records take on the tape, and what containers take
@@ -123,7 +123,7 @@ records_fit w rs f =
     let c = f.bytes in
     omega arith
 
-contents_fit : (w : ℕ) (cs : Contents) → All Fits cs → contents_size w cs ≤ length cs * container_size w
+contents_fit : (w : ℕ) (cs : Contents) → AllByRecursion Fits cs → contents_size w cs ≤ length cs * container_size w
 contents_fit w [] h = let z = zero-mul (container_size w) in omega arith
 contents_fit w (rs ∷ cs) h =
     let a = records_fit w rs h.0 in
@@ -140,7 +140,7 @@ contents_none : (w a n : ℕ) → contents_size w (map (λ c. records_in c []) (
 contents_none w a zero = refl
 contents_none w a (suc n) = let t = contents_none w (a + 1) n in omega arith
 
-log_weighs : (w n : ℕ) (es : List Entry) → All (λ e. e.container < n) es → contents_size w (gathered n es) ≡ log_size w es
+log_weighs : (w n : ℕ) (es : List Entry) → AllByRecursion (λ e. e.container < n) es → contents_size w (gathered n es) ≡ log_size w es
 log_weighs w n [] h = contents_none w 0 n
 log_weighs w n (e ∷ es) h =
     let c = e.container in
@@ -154,7 +154,7 @@ log_weighs w n (e ∷ es) h =
     omega arith
 
 -- a log whose containers keep their limits fits the tape
-pub log_fits : (w n : ℕ) (es : List Entry) → All (λ e. e.container < n) es → All Fits (gathered n es) → log_size w es ≤ n * container_size w
+pub log_fits : (w n : ℕ) (es : List Entry) → AllByRecursion (λ e. e.container < n) es → AllByRecursion Fits (gathered n es) → log_size w es ≤ n * container_size w
 log_fits w n es within fits =
     let a = log_weighs w n es within in
     let b : contents_size w (gathered n es) ≤ n * container_size w = (let P : ℕ → Type 0 = λ m. contents_size w (gathered n es) ≤ m * container_size w in subst P (length-gathered n es) (contents_fit w (gathered n es) fits)) in

@@ -5,7 +5,7 @@ use mathlib.Core.List.{is_set}
 use Rattle.std.proofs.Math.Logic.{∥∥₁_elim}
 use Rattle.std.proofs.Math.Bridge.{le_prop}
 use Rattle.std.proofs.Math.Nat.{ℕ_set}
-use Rattle.std.specs.List.{AllByRecursion as All}
+use Rattle.std.specs.List.{AllByRecursion}
 use Rattle.std.proofs.ByRecursion.{All-push, All-set, all_kept_by}
 use Rattle.std.proofs.lemmas.List.{length_push}
 use Rattle.keys.specs.Octets.{Bytes}
@@ -18,7 +18,7 @@ use Rattle.tape.specs.Sizes.{Good, tape_size}
 use Rattle.tape.specs.Entries.{logged, log_append, log_join, size_join, take_log, length-log_of}
 use Rattle.tape.specs.Gathering.{get_or-gathered, all-gathered, gathered_push, gathered-without, typed_records, log_fits}
 
-prop_all : {X : Type 0} (P : X → Type 0) → ((x : X) → IsProp (P x)) → (xs : List X) → IsProp (All P xs)
+prop_all : {X : Type 0} (P : X → Type 0) → ((x : X) → IsProp (P x)) → (xs : List X) → IsProp (AllByRecursion P xs)
 prop_all P h [] = λ a b. refl
 prop_all P h (x ∷ xs) = λ a b i. (h x a.0 b.0 i, prop_all P h xs a.1 b.1 i)
 
@@ -64,9 +64,9 @@ good_from w n k used bs h = ∥∥₁_elim h (prop_good w n k used bs) (λ g. g)
 pub record Limited (w n : ℕ) (es : List Entry) : Type 0 where
   pub narrow : w ≤ 20
   pub few : n ≤ 32
-  pub each : All (Sound w) es
-  pub within : All (λ e. e.container < n) es
-  pub fits : All Fits (gathered n es)
+  pub each : AllByRecursion (Sound w) es
+  pub within : AllByRecursion (λ e. e.container < n) es
+  pub fits : AllByRecursion Fits (gathered n es)
 
 pub good_made : (w n k used : ℕ) (es : List Entry) (rest bs : List ℕ) → Limited w n es → length bs ≡ tape_size w n → length es ≡ k → log_size w es ≡ used → bs ≡ log_before es rest → Good w n k used bs × (log_of w k bs ≡ es)
 good_made w n k used es rest bs m long count size is =
@@ -78,14 +78,14 @@ good_made w n k used es rest bs m long count size is =
         long = long;
         logged = l.1;
         front = ap (log_size w) e ∙ size;
-        within = subst (All (λ x. x.container < n)) (sym e) m.within;
-        fits = subst (λ x. All Fits (gathered n x)) (sym e) m.fits;
+        within = subst (AllByRecursion (λ x. x.container < n)) (sym e) m.within;
+        fits = subst (λ x. AllByRecursion Fits (gathered n x)) (sym e) m.fits;
       },
       e,
     )
 
 -- an empty tape
-no_records : (n : ℕ) → All Fits (gathered n [])
+no_records : (n : ℕ) → AllByRecursion Fits (gathered n [])
 no_records n = all-gathered Fits n [] (λ c h. record { count = omega arith; bytes = omega arith })
 
 pub good_empty : (w n : ℕ) (bs : List ℕ) → w ≤ 20 → n ≤ 32 → length bs ≡ tape_size w n → Good w n 0 0 bs
@@ -113,7 +113,7 @@ module _ (w n k used : ℕ) (bs : List ℕ) (g : Good w n k used bs) (e : Entry)
           few = g.few;
           each = All-push (Sound w) es e g.logged.each sound;
           within = All-push (λ x. x.container < n) es e g.within here;
-          fits = subst (All Fits) (sym (gathered_push n e es)) (All-set Fits (gathered n es) e.container (rs ++ e.stored ∷ []) fit g.fits);
+          fits = subst (AllByRecursion Fits) (sym (gathered_push n e es)) (All-set Fits (gathered n es) e.container (rs ++ e.stored ∷ []) fit g.fits);
         }
 
     -- the tape never lacks space for what a container takes
@@ -147,11 +147,11 @@ good_without w n k used c k' used' bs bs' g kk uu ll is =
       few = g.few;
       each = all_kept_by _ (Sound w) es g.logged.each;
       within = all_kept_by _ (λ x. x.container < n) es g.within;
-      fits = subst (All Fits) (sym (gathered-without n c es)) (All-set Fits (gathered n es) c [] (record { count = omega arith; bytes = omega arith }) g.fits);
+      fits = subst (AllByRecursion Fits) (sym (gathered-without n c es)) (All-set Fits (gathered n es) c [] (record { count = omega arith; bytes = omega arith }) g.fits);
     } in
     let made = good_made w n k' used' (without c es) (drop used' bs') bs' m (ll ∙ g.long) (sym kk) (sym uu) is in
     (made.0, ap (gathered n) made.1 ∙ gathered-without n c es)
 
 -- the law of a device
 pub good_held : (w n k used : ℕ) (bs : List ℕ) → Good w n k used bs → Held w (gathered n (log_of w k bs))
-good_held w n k used bs g = record { fits = g.fits; typed = all-gathered (All (Typed w)) n (log_of w k bs) (λ c h. typed_records w c (log_of w k bs) g.logged.each) }
+good_held w n k used bs g = record { fits = g.fits; typed = all-gathered (AllByRecursion (Typed w)) n (log_of w k bs) (λ c h. typed_records w c (log_of w k bs) g.logged.each) }

@@ -1,6 +1,6 @@
 -- A log: entries one behind the other in bytes, the log that bytes read as, and which container has which records.
 use Rattle.std.specs.Prelude.{◌≡◌, ℕ, zero, suc, ◌+◌, ◌<◌, ◌≤◌, cond, not, List, [], ◌∷◌, ◌++◌, map, length, take, drop, filter, ◌==◌, slice_index, slice_index_or}
-use Rattle.std.specs.List.{range_with_len, AllByRecursion as All}
+use Rattle.std.specs.List.{range_with_len, AllByRecursion}
 use Rattle.keys.specs.Octets.{little, number}
 use Rattle.records.specs.Limits.{Typed}
 use Rattle.records.specs.Records.{Rec, Contents, no_record}
@@ -55,7 +55,7 @@ pub record Sound (w : ℕ) (e : Entry) : Type 0 where
 pub record Logged (w k : ℕ) (bs : List ℕ) : Type 0 where
   pub space : log_size w (log_of w k bs) ≤ length bs
   pub whole : log_before (log_of w k bs) (drop (log_size w (log_of w k bs)) bs) ≡ bs
-  pub each : All (Sound w) (log_of w k bs)
+  pub each : AllByRecursion (Sound w) (log_of w k bs)
 
 -- the records of a container, in the order of their arrival
 abbrev pub records_in : ℕ → List Entry → List Rec

@@ -1,6 +1,6 @@
 -- How long a tape is, and when its bytes and its number of containers are in order.
 use Rattle.std.specs.Prelude.{◌≡◌, ℕ, ◌+◌, ◌*◌, ◌<◌, ◌≤◌, Bool, ◌&&◌, List, length, nat_le}
-use Rattle.std.specs.List.{AllByRecursion as All}
+use Rattle.std.specs.List.{AllByRecursion}
 use Rattle.records.specs.Limits.{Fits}
 use Rattle.tape.specs.Log.{Logged, log_of, log_size, gathered}
 
@@ -23,5 +23,5 @@ pub record Good (w n k used : ℕ) (bs : List ℕ) : Type 0 where
   pub long : length bs ≡ tape_size w n
   pub logged : Logged w k bs
   pub front : log_size w (log_of w k bs) ≡ used
-  pub within : All (λ e. e.container < n) (log_of w k bs)
-  pub fits : All Fits (gathered n (log_of w k bs))
+  pub within : AllByRecursion (λ e. e.container < n) (log_of w k bs)
+  pub fits : AllByRecursion Fits (gathered n (log_of w k bs))

@@ -1,7 +1,7 @@
 -- Walking a log entry by entry.
 use Rattle.std.specs.Prelude.{◌≡◌, ℕ, ◌+◌, ◌-◌, ◌<◌, ◌≤◌, cond, List, ◌∷◌, length, drop, ◌≢◌, slice_index, slice_index_or, refl}
 use Rattle.std.proofs.Common.{sym, ap, subst, ◌∙◌, arith}
-use Rattle.std.specs.List.{AllByRecursion as All}
+use Rattle.std.specs.List.{AllByRecursion}
 use Rattle.std.proofs.lemmas.List.{drop-drop, drop_more, length-drop}
 use Rattle.std.proofs.lemmas.Bool.{eq-eqb, ne_eqb}
 use Rattle.tape.specs.Log.{Entry, no_entry, Sound, Logged, laid_before, log_before, entry_size, log_size, length_at, entry_of, log_of, records_in}
@@ -12,7 +12,7 @@ pub record On (w : ℕ) (bs : List ℕ) (at : ℕ) (es : List Entry) : Type 0 wh
   pub more : List ℕ
   pub rest : drop at bs ≡ log_before es more
   pub start : at ≤ length bs
-  pub each : All (Sound w) es
+  pub each : AllByRecursion (Sound w) es
 
 pub on_start : (w k : ℕ) (bs : List ℕ) → Logged w k bs → On w bs 0 (log_of w k bs)
 on_start w k bs h = record { more = drop (log_size w (log_of w k bs)) bs; rest = sym h.whole; start = omega arith; each = h.each }

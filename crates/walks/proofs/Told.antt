@@ -1,7 +1,7 @@
 -- What a device tells of the record at a place, and of the children that the record lists.
 use Rattle.std.proofs.Common.{◌≡◌, ℕ, zero, suc, ◌+◌, ◌-◌, ◌*◌, ◌/◌, ◌<◌, ◌≤◌, true, false, cond, ltb, leb, ◌⊎◌, List, [], ◌∷◌, ◌++◌, length, take, drop, is_ok, Some, None, Ok, Err, Option, Result, sym, refl, ap, ◌∙◌, subst, ⊎_elim, add-mul, le-div_iff_mul-le, div-le_self, arith, length-drop}
 use native.Mathlib.Nat.{zero-div}
-use Rattle.std.specs.List.{slice_get, AllByRecursion as All}
+use Rattle.std.specs.List.{slice_get, AllByRecursion}
 use Rattle.std.proofs.ByRecursion.{All-get_or}
 use Rattle.std.proofs.lemmas.List.{take_at, take_rest, get_or_past}
 use Rattle.std.proofs.lemmas.Option.{slice_get-get_or}
@@ -65,7 +65,7 @@ module _ (cs : Contents) (x : Place) where
           ] h
 
   module _ (w : ℕ) (held : Held w cs) where
-    at_place : (P : List Rec → Type 0) → All P cs → (r : Rec) → standing cs x ≡ Some r → P (records_of cs x.container)
+    at_place : (P : List Rec → Type 0) → AllByRecursion P cs → (r : Rec) → standing cs x ≡ Some r → P (records_of cs x.container)
     at_place P h r e =
         ⊎_elim
         (λ (lt : x.container < length cs). All-get_or P cs x.container [] lt h)
@@ -94,7 +94,7 @@ module _ (cs : Contents) (x : Place) where
 
     pub typed_at : (r : Rec) → standing cs x ≡ Some r → Typed w r
     typed_at r e =
-        let a = at_place (All (Typed w)) held.typed r e in
+        let a = at_place (AllByRecursion (Typed w)) held.typed r e in
         let lt = nth_under (records_of cs x.container) x.index r e in
         let is : record_at cs x ≡ r = some_same (sym (there lt) ∙ e) in
         subst (Typed w) is (All-get_or (Typed w) (records_of cs x.container) x.index no_record lt a)

@@ -1,6 +1,6 @@
 -- From what a device tells of a node to a step of an examination.
 use Rattle.std.proofs.Common.{◌≡◌, ℕ, ◌+◌, ◌-◌, ◌/◌, ◌<◌, ◌≤◌, true, false, cond, eqb, ◌⊎◌, List, [], ◌∷◌, ◌++◌, map, length, take, is_some, IsErrAnd, Some, None, Ok, Err, Option, Result, sym, refl, ap, ◌∙◌, subst, inl, inr, ⊎_elim, add-one, arith}
-use Rattle.std.specs.List.{slice_get, flat_map, AllByRecursion as All}
+use Rattle.std.specs.List.{slice_get, flat_map, AllByRecursion}
 use Rattle.std.proofs.lemmas.List.{take_all, take_more, append-nil, map-append}
 use Rattle.std.proofs.lemmas.Bool.{eq-eqb, ne_eqb, eqb-true, both_ways}
 use Rattle.keys.specs.Octets.{Bytes}
@@ -85,11 +85,11 @@ module _ (cs : Contents) (q : List ℕ) (n : ℕ) (o : Option Place) (at : o ≡
       go (Some x) e = let z : ◌≡◌ {A = ℕ} 0 1 = cc in omega arith
 
 -- every record of a device is typed, so what is reached from a key is a key's bytes
-all_in : {X : Type 0} (P : X → Type 0) (xss : List (List X)) (x : X) → All (All P) xss → In x (flat_map (λ xs. xs) xss) → P x
+all_in : {X : Type 0} (P : X → Type 0) (xss : List (List X)) (x : X) → AllByRecursion (AllByRecursion P) xss → In x (flat_map (λ xs. xs) xss) → P x
 all_in P [] x h i = elim i [ ]
 all_in {X} P (xs ∷ xss) x h i = ⊎_elim (λ j. one xs h.0 j) (λ j. all_in P xss x h.1 j) (in_either x xs (flat_map (λ xs. xs) xss) i)
   where
-    one : (ys : List X) → All P ys → In x ys → P x
+    one : (ys : List X) → AllByRecursion P ys → In x ys → P x
     one [] h i = elim i [ ]
     one (y ∷ ys) h i = ⊎_elim (λ (e : x ≡ y). subst P (sym e) h.0) (λ j. one ys h.1 j) i
 
