@@ -3,7 +3,7 @@
 
 usage: python3 tools/respell.py [FOLDER]     once, at the top, right after /opt/rattle/port/port.py
 
-Each line of NAMES is an old name and its new one. A name is replaced where it stands as a word of its own in an .antt
+Each line of NAMES is an old name and its new one. `AllByRecursion as All` loses its second name, which the gate refuses. A name is replaced where it stands as a word of its own in an .antt
 file, or in a .rt file's ghost text; not behind a dot, where a step or a field of a goal stands, unless the dot follows
 a module's name. A lemma that would have got its function's name ends in `_lem`.
 """
@@ -736,6 +736,14 @@ def respell(text):
     return WORD.sub(lambda m: TABLE[m.group(1)] if allowed(m.string, m.start()) else m.group(1), text)
 
 
+def under_its_own_name(text):
+    """The library's AllByRecursion was brought in as All, which the gate refuses."""
+    if "AllByRecursion as All" not in text:
+        return text
+    text = text.replace("AllByRecursion as All", "AllByRecursion")
+    return re.sub(r"(?<![\w.\-'])All(?![\w\-'])", "AllByRecursion", text)
+
+
 def main():
     top = sys.argv[1] if len(sys.argv) > 1 else "."
     for folder, dirs, files in os.walk(os.path.join(top, "crates")):
@@ -746,7 +754,7 @@ def main():
             path = os.path.join(folder, name)
             with open(path, encoding="utf-8") as f:
                 old = f.read()
-            new = "\n".join(respell(line) for line in old.split("\n"))
+            new = under_its_own_name("\n".join(respell(line) for line in old.split("\n")))
             if new != old:
                 with open(path, "w", encoding="utf-8") as f:
                     f.write(new)
