@@ -16,10 +16,7 @@ const USAGE: &str =
 fn read(rt: &HostRuntime, path: &str) -> anyhow::Result<Vec<u8>> {
     match fs::read(rt, path) {
         Ok(bytes) => Ok(bytes),
-        Err(_) => {
-            let text = format!(in rt.alloc(); "cannot read {path}")?;
-            Err(text.into())
-        }
+        Err(_) => Err(anyhow!("cannot read {path}")),
     }
 }
 
@@ -43,7 +40,7 @@ fn copy(rt: &HostRuntime, from: &str, to: &str) -> anyhow::Result<()> {
 // A record's place, as CONTAINER.INDEX.
 fn place(text: &str) -> anyhow::Result<Place> {
     let Some((container, index)) = text.split_once('.') else {
-        return Err(USAGE.into());
+        return Err(anyhow!("{USAGE}"));
     };
     Ok(Place {
         container: container.parse::<usize>()?,
@@ -61,7 +58,7 @@ fn places(heap: Global, words: &[String]) -> anyhow::Result<Vec<Place>> {
 
 fn sets(rt: &HostRuntime, words: &[String]) -> anyhow::Result<()> {
     let [path, bytes, named @ ..] = words else {
-        return Err(USAGE.into());
+        return Err(anyhow!("{USAGE}"));
     };
     let file = ContainerFile::<Fnv>::over(read(rt, path.as_str())?);
     let marked = places(rt.alloc(), named)?;
@@ -78,7 +75,7 @@ fn carry_out(rt: &HostRuntime, command: &str, words: &[String]) -> anyhow::Resul
         }
         ("copy", [from, to]) => copy(rt, from.as_str(), to.as_str()),
         ("sets", _) => sets(rt, words),
-        _ => Err(USAGE.into()),
+        _ => Err(anyhow!("{USAGE}")),
     }
 }
 
@@ -87,7 +84,7 @@ pub fn run(rt: &HostRuntime) -> anyhow::Result<()> {
     let mut args = env::args(rt)?;
     let _ = args.next();
     let Some(command) = args.next() else {
-        return Err(USAGE.into());
+        return Err(anyhow!("{USAGE}"));
     };
     let mut words = Vec::new(rt.alloc());
     for word in args {
