@@ -14,7 +14,7 @@ use records::{Cause, Refusal};
 impl<D: Device> Store<D> {
     // A store over a device of any contents, shut and without sheets. Two stores have different numbers as long as a token of either is out.
     pub fn new(device: D, number: u32) -> Self
-        ensures { model D.Device Kind-as-Key.bytes result ≡ fresh (D.Device.contents device) number }
+        ensures { model D.Device D.Kind.Key.bytes result ≡ fresh (D.Device.contents device) number }
     {
         Store {
             device,
@@ -46,8 +46,8 @@ impl<D: Device> Store<D> {
 
     // Opens the store, if its device passes the examination.
     pub fn admit(&mut self) -> Result<(), Refusal>
-        ensures answer { result ≡ admit_answer Kind-as-Key.width (λ l p. Kind-as-Key.bytes (Kind-as-Fingerprint.naming l p)) (model D.Device Kind-as-Key.bytes self.old) }
-        ensures after { model D.Device Kind-as-Key.bytes self.new ≡ after_admit Kind-as-Key.width (λ l p. Kind-as-Key.bytes (Kind-as-Fingerprint.naming l p)) (model D.Device Kind-as-Key.bytes self.old) }
+        ensures answer { result ≡ admit_answer D.Kind.Key.width (λ l p. D.Kind.Key.bytes (D.Kind.Fingerprint.naming l p)) (model D.Device D.Kind.Key.bytes self.old) }
+        ensures after { model D.Device D.Kind.Key.bytes self.new ≡ after_admit D.Kind.Key.width (λ l p. D.Kind.Key.bytes (D.Kind.Fingerprint.naming l p)) (model D.Device D.Kind.Key.bytes self.old) }
     {
         if self.admitted {
             return Err(Refusal::of(Cause::AlreadyAdmitted));

@@ -40,7 +40,7 @@ fn examine_tree<D: Device>(
 impl<D: Device> Store<D> {
     // The entry and the name that a new sheet gets, with a table of so many slots for its examination.
     fn entry_for(&self, name: &[u8], slots: usize) -> Result<(usize, Name), Refusal>
-        ensures { spelt result ≡ entry_answer Kind-as-Key.width (model D.Device Kind-as-Key.bytes self.now) name.now [] slots }
+        ensures { spelt result ≡ entry_answer D.Kind.Key.width (model D.Device D.Kind.Key.bytes self.now) name.now [] slots }
     {
         if !self.admitted {
             return Err(Refusal::of(Cause::Shut));

@@ -16,7 +16,7 @@ use walks::{Lead, leads_to, position_after};
 impl<D: Device> Store<D> {
     // Counts the readings of the sheet at an entry anew.
     fn recount(&mut self, entry: usize, readings: u8)
-        ensures { model D.Device Kind-as-Key.bytes self.new ≡ keeping (model D.Device Kind-as-Key.bytes self.old) (recounted readings (model D.Device Kind-as-Key.bytes self.old).sheets entry) }
+        ensures { model D.Device D.Kind.Key.bytes self.new ≡ keeping (model D.Device D.Kind.Key.bytes self.old) (recounted readings (model D.Device D.Kind.Key.bytes self.old).sheets entry) }
     {
         if let Some(sheet) = self.catalogue.sheet(entry) {
             let counted = Sheet {
@@ -30,7 +30,7 @@ impl<D: Device> Store<D> {
 
     // The entry of a sheet that may be opened.
     fn entry_to_open(&self, name: &[u8]) -> Result<usize, Refusal>
-        ensures { result ≡ open_entry (model D.Device Kind-as-Key.bytes self.now) name.now }
+        ensures { result ≡ open_entry (model D.Device D.Kind.Key.bytes self.now) name.now }
     {
         if !self.admitted {
             return Err(Refusal::of(Cause::Shut));
@@ -49,8 +49,8 @@ impl<D: Device> Store<D> {
 
     // Opens the sheet of a name: a token at its start.
     pub fn open(&mut self, name: &[u8]) -> Result<ReadToken, Refusal>
-        ensures answer { result ≡ open_answer (model D.Device Kind-as-Key.bytes self.old) name.now }
-        ensures after { model D.Device Kind-as-Key.bytes self.new ≡ after_open (model D.Device Kind-as-Key.bytes self.old) name.now }
+        ensures answer { result ≡ open_answer (model D.Device D.Kind.Key.bytes self.old) name.now }
+        ensures after { model D.Device D.Kind.Key.bytes self.new ≡ after_open (model D.Device D.Kind.Key.bytes self.old) name.now }
     {
         match self.entry_to_open(name) {
             Ok(entry) => {
@@ -69,7 +69,7 @@ impl<D: Device> Store<D> {
 
     // Where the reading of a token stands.
     fn lead(&self, token: &ReadToken) -> Lead
-        ensures { result ≡ lead_at Kind-as-Key.width (model D.Device Kind-as-Key.bytes self.now) token.now }
+        ensures { result ≡ lead_at D.Kind.Key.width (model D.Device D.Kind.Key.bytes self.now) token.now }
     {
         match self.catalogue.sheet(token.sheet) {
             None => Lead::Nowhere,
@@ -85,7 +85,7 @@ impl<D: Device> Store<D> {
 
     // Where the reading of a token stands, if the token is one of a reading that is out here.
     fn lead_of(&self, token: &ReadToken) -> Result<Lead, Refusal>
-        ensures { result ≡ lead_answer Kind-as-Key.width (model D.Device Kind-as-Key.bytes self.now) token.now }
+        ensures { result ≡ lead_answer D.Kind.Key.width (model D.Device D.Kind.Key.bytes self.now) token.now }
     {
         if !self.admitted {
             return Err(Refusal::of(Cause::Shut));
@@ -102,7 +102,7 @@ impl<D: Device> Store<D> {
 
     // The token behind the strip that it stands at.
     fn moved_on(&self, token: ReadToken) -> ReadToken
-        ensures { result ≡ moved_on Kind-as-Key.width (model D.Device Kind-as-Key.bytes self.now) token }
+        ensures { result ≡ moved_on D.Kind.Key.width (model D.Device D.Kind.Key.bytes self.now) token }
     {
         let ReadToken {
             number,
@@ -128,7 +128,7 @@ impl<D: Device> Store<D> {
         buffer: &mut [u8],
     ) -> Result<(ReadToken, Option<usize>), (Refusal, ReadToken)>
         requires { Stands (D.Device.contents self.now.device) place }
-        ensures answer { result ≡ give_answer Kind-as-Key.width (model D.Device Kind-as-Key.bytes self.now) token (length buffer.old) (payload_of (standing (D.Device.contents self.now.device) place)) }
+        ensures answer { result ≡ give_answer D.Kind.Key.width (model D.Device D.Kind.Key.bytes self.now) token (length buffer.old) (payload_of (standing (D.Device.contents self.now.device) place)) }
         ensures buffer { buffer.new ≡ give_buffer buffer.old (payload_of (standing (D.Device.contents self.now.device) place)) }
     {
         match self.device.payload(place, buffer) {
@@ -143,9 +143,9 @@ impl<D: Device> Store<D> {
         token: ReadToken,
         buffer: &mut [u8],
     ) -> Result<(ReadToken, Option<usize>), (Refusal, ReadToken)>
-        ensures answer { result ≡ next_answer Kind-as-Key.width (model D.Device Kind-as-Key.bytes self.now) token (length buffer.old) }
-        ensures buffer { buffer.new ≡ next_buffer Kind-as-Key.width (model D.Device Kind-as-Key.bytes self.now) token buffer.old }
-        ensures text { DueInText Kind-as-Key.width (model D.Device Kind-as-Key.bytes self.now) token }
+        ensures answer { result ≡ next_answer D.Kind.Key.width (model D.Device D.Kind.Key.bytes self.now) token (length buffer.old) }
+        ensures buffer { buffer.new ≡ next_buffer D.Kind.Key.width (model D.Device D.Kind.Key.bytes self.now) token buffer.old }
+        ensures text { DueInText D.Kind.Key.width (model D.Device D.Kind.Key.bytes self.now) token }
     {
         match self.lead_of(&token) {
             Err(refusal) => Err((refusal, token)),
@@ -159,8 +159,8 @@ impl<D: Device> Store<D> {
 
     // Takes a token for good: its reading is over.
     pub fn return_token(&mut self, token: ReadToken) -> Result<(), (Refusal, ReadToken)>
-        ensures answer { result ≡ return_answer Kind-as-Key.width (model D.Device Kind-as-Key.bytes self.old) token }
-        ensures after { model D.Device Kind-as-Key.bytes self.new ≡ after_return Kind-as-Key.width (model D.Device Kind-as-Key.bytes self.old) token }
+        ensures answer { result ≡ return_answer D.Kind.Key.width (model D.Device D.Kind.Key.bytes self.old) token }
+        ensures after { model D.Device D.Kind.Key.bytes self.new ≡ after_return D.Kind.Key.width (model D.Device D.Kind.Key.bytes self.old) token }
     {
         match self.lead_of(&token) {
             Err(refusal) => Err((refusal, token)),
