@@ -1,5 +1,5 @@
 -- What follows from a choice: the record is taken, and how many containers are free after.
-use Rattle.std.proofs.Common.{◌≡◌, ℕ, ◌+◌, ◌<◌, ◌≤◌, true, false, cond, ◌&&◌, ltb, leb, ◌⊎◌, length, Option, refl, ap, ◌∙◌, inl, inr, ⊎_elim, arith}
+use Rattle.std.proofs.Common.{◌≡◌, ℕ, ◌+◌, ◌<◌, ◌≤◌, true, false, cond, ◌&&◌, ltb, leb, ◌⊎◌, length, Option, refl, ap, ◌∙◌, ⊎_elim, arith}
 use Rattle.records.specs.Records.{Rec, Contents, payload_bytes}
 use Rattle.devices.specs.Questions.{records_of}
 use Rattle.std.proofs.lemmas.Bool.{leb-true, and_parts}

@@ -9,7 +9,7 @@ use Rattle.slots.specs.declared.slot.Slot.TheVariants.{Empty, Plain, Marked}
 use Rattle.slots.specs.declared.probe.Probe.{Probe}
 use Rattle.slots.specs.declared.probe.Probe.TheVariants.{Found, Free, Full}
 use Rattle.slots.specs.Walks.{keys_of, probed, reached, is_found, Within}
-use Rattle.slots.specs.Marks.{is_marked, unmarked, noted, mark_at, marked, NoMarks, OneMark}
+use Rattle.slots.specs.Marks.{is_marked, unmarked, noted, mark_at, NoMarks, OneMark}
 use Rattle.slots.proofs.Walking.{held_at, probed_within}
 use Rattle.slots.proofs.Cells.{keys_length, keys_mark}
 

@@ -11,7 +11,7 @@ use keys::Key;
 // Takes every mark off.
 pub fn unmark<K: Key>(slots: &mut [Slot<K>])
     ensures after { slots.new ≡ unmarked slots.old }
-    ensures meaning { NoMarks bytes slots.old slots.new }
+    ensures meaning { NoMarks K.bytes slots.old slots.new }
 {
     for slot in slots.iter_mut() {
         *slot = slot.without_mark();
@@ -32,8 +32,8 @@ fn note_key<K: Key>(slots: &mut [Slot<K>], met: Probe, key: K)
 
 // Marks the key where its walk meets it; any other key changes nothing.
 pub fn mark_key<K: Key>(slots: &mut [Slot<K>], key: K)
-    ensures after { slots.new ≡ noted (probed bytes key (keys_of slots.old)) key slots.old }
-    ensures meaning { OneMark bytes key slots.old slots.new }
+    ensures after { slots.new ≡ noted (probed K.bytes key (keys_of slots.old)) key slots.old }
+    ensures meaning { OneMark K.bytes key slots.old slots.new }
 {
     let met = probe_for(slots, key);
     note_key(slots, met, key);
@@ -41,7 +41,7 @@ pub fn mark_key<K: Key>(slots: &mut [Slot<K>], key: K)
 
 // Whether a walk meets the key, and the key is marked there.
 pub fn is_marked<K: Key>(slots: &[Slot<K>], key: K) -> bool
-    ensures { result ≡ marked bytes slots.now key }
+    ensures { result ≡ marked K.bytes slots.now key }
 {
     match probe_for(slots, key) {
         Probe::Found(place) => slots[place].has_mark(),

@@ -18,10 +18,10 @@ fn holds_nothing<K>(slots: &[Slot<K>], count: usize) -> bool
 
 // Whether a walk meets the key in a table that is told to hold `count` keys.
 pub fn lookup<K: Key>(slots: &[Slot<K>], count: usize, key: K) -> bool
-    ensures answer { result ≡ looked bytes count (keys_of slots.now) key }
-    ensures walk { filled (keys_of slots.now) ≤ count → result ≡ reached bytes (keys_of slots.now) key }
-    ensures exact { Sound bytes (keys_of slots.now) → filled (keys_of slots.now) ≤ count → result ≡ holds bytes (keys_of slots.now) key }
-    ensures since { (inserted : List K) → MadeBy bytes inserted (keys_of slots.now) → filled (keys_of slots.now) ≤ count → result ≡ listed bytes inserted key }
+    ensures answer { result ≡ looked K.bytes count (keys_of slots.now) key }
+    ensures walk { filled (keys_of slots.now) ≤ count → result ≡ reached K.bytes (keys_of slots.now) key }
+    ensures exact { Sound K.bytes (keys_of slots.now) → filled (keys_of slots.now) ≤ count → result ≡ holds K.bytes (keys_of slots.now) key }
+    ensures since { (inserted : List K) → MadeBy K.bytes inserted (keys_of slots.now) → filled (keys_of slots.now) ≤ count → result ≡ listed K.bytes inserted key }
 {
     if holds_nothing(slots, count) {
         return false;
@@ -44,7 +44,7 @@ fn put_key<K: Key>(slots: &mut [Slot<K>], met: Probe, key: K)
 // Puts the key into the empty slot that its walk ends at, and tells where the walk ended.
 pub fn insert<K: Key>(slots: &mut [Slot<K>], key: K) -> Probe
     ensures after { slots.new ≡ put result key slots.old }
-    ensures meaning { Inserted bytes key (keys_of slots.old) result (keys_of slots.new) }
+    ensures meaning { Inserted K.bytes key (keys_of slots.old) result (keys_of slots.new) }
 {
     let met = probe_for(slots, key);
     put_key(slots, met, key);
@@ -64,7 +64,7 @@ fn empty_below<K: Key>(slots: &mut [Slot<K>], place: usize)
 // Empties every slot.
 pub fn empty<K: Key>(slots: &mut [Slot<K>])
     ensures after { slots.new ≡ replicate (length slots.old) Empty }
-    ensures meaning { Emptied bytes (keys_of slots.new) }
+    ensures meaning { Emptied K.bytes (keys_of slots.new) }
 {
     let long = slots.len();
     empty_below(slots, long);

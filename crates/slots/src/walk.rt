@@ -9,7 +9,7 @@ use keys::{Key, home};
 // Walks along a part of the slots, whose first has the place `from`, to the key or an empty slot.
 fn scan<K: Key>(part: &[Slot<K>], from: usize, key: K) -> Probe
     requires { from + length part.now < 2 ^ 64 }
-    ensures { result ≡ find bytes key from (keys_of part.now) }
+    ensures { result ≡ find K.bytes key from (keys_of part.now) }
 {
     for (i, slot) in part.iter().enumerate() {
         match slot.key() {
@@ -27,7 +27,7 @@ fn scan<K: Key>(part: &[Slot<K>], from: usize, key: K) -> Probe
 // Where the walk of a key begins, among so many slots.
 fn home_among<K: Key>(key: K, long: usize) -> usize
     requires { 0 < long }
-    ensures is { result ≡ home_of bytes key long }
+    ensures is { result ≡ home_of K.bytes key long }
     ensures within { result < long }
 {
     (home(key, 0) % long as u64) as usize
@@ -52,7 +52,7 @@ fn below_place<K>(slots: &[Slot<K>], place: usize) -> &[Slot<K>]
 
 // Walks from the key's home upward, and round to 0, to the key or an empty slot.
 pub(crate) fn probe_for<K: Key>(slots: &[Slot<K>], key: K) -> Probe
-    ensures answer { result ≡ probed bytes key (keys_of slots.now) }
+    ensures answer { result ≡ probed K.bytes key (keys_of slots.now) }
     ensures within { Within result (length slots.now) }
 {
     if slots.len() == 0 {

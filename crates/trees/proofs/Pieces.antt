@@ -1,5 +1,5 @@
 -- The pieces that a payload is cut into.
-use Rattle.std.proofs.Common.{◌≡◌, ℕ, zero, suc, ◌+◌, ◌*◌, ◌/◌, ◌<◌, ◌≤◌, ◌⊎◌, List, length, take, drop, Some, sym, refl, ap, ◌∙◌, ⊎_elim, mul_comm, add-mul, div-mul-le_self, arith, length-drop}
+use Rattle.std.proofs.Common.{◌≡◌, ℕ, zero, suc, ◌+◌, ◌*◌, ◌/◌, ◌<◌, ◌≤◌, List, length, take, drop, Some, sym, refl, ap, ◌∙◌, ⊎_elim, mul_comm, add-mul, div-mul-le_self, arith, length-drop}
 use native.Mathlib.Nat.{mul-div_cancel_left}
 use Rattle.std.specs.List.{slice_get}
 use Rattle.std.proofs.ByRecursion.{All-take, All-drop}

@@ -1,5 +1,5 @@
 -- Clearing a container: the survivors are placed elsewhere, and the rest is lost.
-use Rattle.std.specs.Prelude.{◌≡◌, ℕ, ◌+◌, ◌*◌, ◌<◌, Bool, cond, List, [], ◌∷◌, ◌++◌, map, length, ◌≢◌, slice_index_or, slice_set}
+use Rattle.std.specs.Prelude.{◌≡◌, ℕ, ◌+◌, ◌*◌, ◌<◌, Bool, cond, List, [], ◌∷◌, map, length, ◌≢◌, slice_index_or, slice_set}
 use Rattle.devices.specs.Changes.{appended}
 use Rattle.records.specs.Records.{Rec, Contents}
 use Rattle.trees.specs.Chains.{Chain}

@@ -1,7 +1,7 @@
 -- Placing records: into the open container, or else into a free one, which is open then.
-use Rattle.std.specs.Prelude.{◌≡◌, ℕ, ◌+◌, ◌<◌, Bool, true, false, ◌&&◌, List, [], length, Some, Option, slice_index_or}
+use Rattle.std.specs.Prelude.{◌≡◌, ℕ, ◌<◌, true, false, List, [], length, Some, Option, slice_index_or}
 use Rattle.devices.specs.Changes.{appended, takes}
-use Rattle.records.specs.Records.{Rec, Contents, payload_bytes}
+use Rattle.records.specs.Records.{Rec, Contents}
 use Rattle.trees.specs.Chains.{Chain}
 
 -- a container that has no records

@@ -2,12 +2,12 @@
 use Rattle.std.proofs.Common.{◌≡◌, ℕ, ◌≤◌, true, cond, leb, List, Some, None, Option, sym, refl, ap, ◌∙◌, arith}
 use Rattle.std.specs.List.{slice_get}
 use Rattle.std.proofs.lemmas.Bool.{le-leb}
-use Rattle.records.specs.Records.{Rec, Contents, first_place}
+use Rattle.records.specs.Records.{Contents, first_place}
 use Rattle.records.specs.Shapes.{Shape}
 use Rattle.records.specs.Shapes.Shape.{strip, node}
 use Rattle.records.specs.declared.refusal.Place.{Place}
-use Rattle.trees.specs.Holding.{if_some, all, record_of, standing}
-use Rattle.trees.specs.Reading.{height, strip_at, next_at, rank_at, Reads}
+use Rattle.trees.specs.Holding.{if_some, all, standing}
+use Rattle.trees.specs.Reading.{height, strip_at, next_at, rank_at}
 use Rattle.trees.specs.Trees.{Whole, Shaped, level_of, payload_of, text}
 use Rattle.trees.proofs.Cursors.{cursor_reads}
 use Rattle.trees.proofs.Finding.{first_in}

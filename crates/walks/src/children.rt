@@ -25,7 +25,7 @@ pub(crate) fn piece_at<F: Fingerprint>(payload: &[u8], index: usize) -> Option<F
 
 // The child at an index of the record at a place, if there is one.
 pub(crate) fn child_at<D: Device>(device: &D, place: Place, index: usize) -> Option<D::Kind>
-    ensures { result ≡ as_key D.Kind.Key.key (slice_get (cut D.Kind.Key.width (payload_of (standing (contents device.now) place))) index) }
+    ensures { result ≡ as_key D.Kind.Key.key (slice_get (cut D.Kind.Key.width (payload_of (standing (D.contents device.now) place))) index) }
 {
     let mut buffer = [0u8; LONGEST];
     match device.payload(place, &mut buffer) {
@@ -36,7 +36,7 @@ pub(crate) fn child_at<D: Device>(device: &D, place: Place, index: usize) -> Opt
 
 // How many children the record at a place has.
 pub(crate) fn child_count<D: Device>(device: &D, place: Place) -> usize
-    ensures is { result ≡ length (cut Kind-as-Key.width (payload_of (standing (contents device.now) place))) }
+    ensures is { result ≡ length (cut D.Kind.Key.width (payload_of (standing (D.contents device.now) place))) }
     ensures few { result ≤ 7168 }
 {
     match device.payload_len(place) {

@@ -16,7 +16,7 @@ use slots::{Probe, Slot, insert, lookup};
 
 // The first place of a fingerprint that is stored at a level.
 fn place_at_level<D: Device>(device: &D, node: D::Kind, level: u8) -> Option<Place>
-    ensures { result ≡ (if stands (record_of (contents device.now) (D.Kind.Key.bytes node)) level then first_place (contents device.now) (D.Kind.Key.bytes node) else None) }
+    ensures { result ≡ (if stands (record_of (D.contents device.now) (D.Kind.Key.bytes node)) level then first_place (D.contents device.now) (D.Kind.Key.bytes node) else None) }
 {
     let place = device.first_place(node)?;
     match device.level(place) {
@@ -28,8 +28,8 @@ fn place_at_level<D: Device>(device: &D, node: D::Kind, level: u8) -> Option<Pla
 // Whether a child is stored at the level just below a node's.
 fn is_under<D: Device>(device: &D, child: D::Kind, level: u8) -> bool
     requires { 1 ≤ level }
-    ensures under { result ≡ true → StoredUnder (contents device.now) level (D.Kind.Key.bytes child) }
-    ensures lacks { result ≡ false → StoredUnder (contents device.now) level (D.Kind.Key.bytes child) → ⊥ }
+    ensures under { result ≡ true → StoredUnder (D.contents device.now) level (D.Kind.Key.bytes child) }
+    ensures lacks { result ≡ false → StoredUnder (D.contents device.now) level (D.Kind.Key.bytes child) → ⊥ }
 {
     place_at_level(device, child, level - 1).is_some()
 }
@@ -43,7 +43,7 @@ fn admit_child<D: Device>(
     table: &mut [Slot<D::Kind>],
 ) -> Result<(), Finding>
     requires { 1 ≤ level }
-    ensures { Admits D.Kind.Key.bytes (contents device.now) place level child (keys_of table.old) (keys_of table.new) result }
+    ensures { Admits D.Kind.Key.bytes (D.contents device.now) place level child (keys_of table.old) (keys_of table.new) result }
 {
     if !is_under(device, child, level) {
         return Err(Finding::Broken(place));
@@ -63,7 +63,7 @@ fn admit_pieces<D: Device>(
     table: &mut [Slot<D::Kind>],
 ) -> Result<(), Finding>
     requires { 1 ≤ level }
-    ensures { AdmitsAll D.Kind.Key.bytes D.Kind.Key.width (contents device.now) place level payload.now (keys_of table.old) (keys_of table.new) result }
+    ensures { AdmitsAll D.Kind.Key.bytes D.Kind.Key.width (D.contents device.now) place level payload.now (keys_of table.old) (keys_of table.new) result }
 {
     for index in 0..payload.len() / D::Kind::width() {
         if let Some(child) = piece_at(payload, index) {
@@ -81,7 +81,7 @@ fn admit_children<D: Device>(
     table: &mut [Slot<D::Kind>],
 ) -> Result<(), Finding>
     requires { 1 ≤ level }
-    ensures { (payload : List ℕ) → AdmitsAll D.Kind.Key.bytes D.Kind.Key.width (contents device.now) place level payload (keys_of table.old) (keys_of table.new) result }
+    ensures { (payload : List ℕ) → AdmitsAll D.Kind.Key.bytes D.Kind.Key.width (D.contents device.now) place level payload (keys_of table.old) (keys_of table.new) result }
 {
     let mut buffer = [0u8; LONGEST];
     match device.payload(place, &mut buffer) {
@@ -98,7 +98,7 @@ fn visit_node<D: Device>(
     table: &mut [Slot<D::Kind>],
 ) -> Result<(), Finding>
     requires { 1 ≤ level }
-    ensures { (done : List (List ℕ)) → Moves D.Kind.Key.bytes D.Kind.Key.width (contents device.now) level done (keys_of table.old) level (D.Kind.Key.bytes node ∷ done) (keys_of table.new) result }
+    ensures { (done : List (List ℕ)) → Moves D.Kind.Key.bytes D.Kind.Key.width (D.contents device.now) level done (keys_of table.old) level (D.Kind.Key.bytes node ∷ done) (keys_of table.new) result }
 {
     if !lookup(table, table.len(), node) {
         return Ok(());
@@ -117,7 +117,7 @@ fn visit_container<D: Device>(
     table: &mut [Slot<D::Kind>],
 ) -> Result<(), Finding>
     requires { 1 ≤ level }
-    ensures { (done : List (List ℕ)) → Moves D.Kind.Key.bytes D.Kind.Key.width (contents device.now) level done (keys_of table.old) level (map (λ x. x.fingerprint) (records_of (contents device.now) container) ++ done) (keys_of table.new) result }
+    ensures { (done : List (List ℕ)) → Moves D.Kind.Key.bytes D.Kind.Key.width (D.contents device.now) level done (keys_of table.old) level (map (λ x. x.fingerprint) (records_of (D.contents device.now) container) ++ done) (keys_of table.new) result }
 {
     let Ok(count) = device.records(container) else {
         return Ok(());
@@ -133,7 +133,7 @@ fn visit_container<D: Device>(
 // Visits the nodes of a level, in rising container order.
 fn visit_level<D: Device>(device: &D, level: u8, table: &mut [Slot<D::Kind>]) -> Result<(), Finding>
     requires { 1 ≤ level }
-    ensures { Moves D.Kind.Key.bytes D.Kind.Key.width (contents device.now) level [] (keys_of table.old) (level - 1) [] (keys_of table.new) result }
+    ensures { Moves D.Kind.Key.bytes D.Kind.Key.width (D.contents device.now) level [] (keys_of table.old) (level - 1) [] (keys_of table.new) result }
 {
     for container in 0..device.count() {
         visit_container(device, container, level, table)?;
@@ -147,7 +147,7 @@ pub(crate) fn visit_levels<D: Device>(
     top: u8,
     table: &mut [Slot<D::Kind>],
 ) -> Result<(), Finding>
-    ensures { Moves D.Kind.Key.bytes D.Kind.Key.width (contents device.now) top [] (keys_of table.old) 0 [] (keys_of table.new) result }
+    ensures { Moves D.Kind.Key.bytes D.Kind.Key.width (D.contents device.now) top [] (keys_of table.old) 0 [] (keys_of table.new) result }
 {
     let mut level = top;
     while level > 0 {

@@ -20,7 +20,7 @@ returns-then-containers_in_order g c =
     let w = g.F.Key.width in
     let bs = c.args.bytes.now in
     let n = length bs / c.container_size-size.result in
-    let b : Bytes bs = All-from_get_or (λ x. x < 256) bs 0 (λ i h. let f = c.type-inv.bytes i in omega arith) in
+    let b : Bytes bs = All-from_get_or (λ x. x < 256) bs 0 (λ i h. let f = c.type_inv.bytes i in omega arith) in
     record {
       answer = is_file w n bs b (c.if-not-has_length.ensures.yes tt) (subst (λ v. ContainersOk v n bs) c.width.ensures (c.if-containers_in_order.ensures.yes tt));
       one = one_file w;

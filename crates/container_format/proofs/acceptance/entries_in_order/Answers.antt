@@ -9,11 +9,11 @@ entry_length-requires c =
     let r = c.loop-i.invariant.space in
     record { narrow = c.requires.narrow; long = k; inside = omega arith }
 
-pub slice-bounds-rest-count : goal.slice-bounds-rest-count
-slice-bounds-rest-count c = enough _ _ _ _ _ _ _ _ _ c.loop-i.invariant c.loop-i-test.true c.requires.few
+pub slice_bounds-rest-count : goal.slice_bounds-rest-count
+slice_bounds-rest-count c = enough _ _ _ _ _ _ _ _ _ c.loop-i.invariant c.loop-i-test.true c.requires.few
 
-pub slice-bounds-rest-start : goal.slice-bounds-rest-start
-slice-bounds-rest-start c =
+pub slice_bounds-rest-start : goal.slice_bounds-rest-start
+slice_bounds-rest-start c =
     let k = enough _ _ _ _ _ _ _ _ _ c.loop-i.invariant c.loop-i-test.true c.requires.few in search rules
 
 pub returns-in-None : goal.returns-in-None

@@ -1,7 +1,7 @@
 use Rattle.std.proofs.Common.{◌<◌, true, false, length, arith}
 use Rattle.placing.proofs.Searching.{count_step, count-all}
 use Rattle.placing.proofs.free.free_count.Goals as goal
-use Rattle.placing.proofs.free.free_count.Goals.{then-is-free, else-is-free}
+use Rattle.placing.proofs.free.free_count.Goals.{then-is_free, else-is_free}
 
 pub loop-container-preserved : goal.loop-container-preserved
 loop-container-preserved g c =
@@ -10,7 +10,7 @@ loop-container-preserved g c =
     let t = c.is_free.result in
     let here : k < length cs = (let n = c.count-container-end.ensures in let less = c.loop-container-test.true in omega arith) in
     let before = c.loop-container.invariant in
-    elim c.if-is_free.branch [ then-is-free w ↦ (let s = count_step cs k t true here c.is_free.ensures w.if-is_free.true in let n = w.free-is in (omega arith, omega arith)) | else-is-free w ↦ (let s = count_step cs k t false here c.is_free.ensures w.if-is_free.false in let n = w.free-is in (omega arith, omega arith)) ]
+    elim c.if-is_free.branch [ then-is_free w ↦ (let s = count_step cs k t true here c.is_free.ensures w.if-is_free.true in let n = w.free-is in (omega arith, omega arith)) | else-is_free w ↦ (let s = count_step cs k t false here c.is_free.ensures w.if-is_free.false in let n = w.free-is in (omega arith, omega arith)) ]
 
 pub returns : goal.returns
 returns g c =

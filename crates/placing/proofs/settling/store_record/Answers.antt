@@ -1,4 +1,4 @@
-use Rattle.std.proofs.Common.{◌≡◌, refl, inl, inr}
+use Rattle.std.proofs.Common.{refl, inl, inr}
 use Rattle.placing.proofs.Outcomes.{choice_appends}
 use Rattle.placing.proofs.settling.store_record.Goals as goal
 

@@ -21,13 +21,13 @@ returns-in-Full g c =
     rw (keys_length xs, ← c.home_among-start.ensures.is) (part_two b k (keys_of xs) h c.scan.result c.scan-in-Full.result e c.in-Full.is f) in
     record { answer = a; within = subst (λ (n : ℕ). Within c.scan-in-Full.result n) (keys_length xs) (probed_within b k (keys_of xs) _ a) }
 
-pub returns-in-default : goal.returns-in-default
-returns-in-default g c =
+pub returns-in_default : goal.returns-in_default
+returns-in_default g c =
     let b = g.K.Key.bytes in
     let k = c.args.key in
     let xs = c.args.slots.now in
     let h = c.home_among-start.result in
     let e = c.scan.ensures ∙ ap (λ ys. find b k h (keys_of ys)) c.from_place.ensures.part ∙ ap (find b k h) (keys_drop h xs) in
     let a : c.scan.result ≡ probed b k (keys_of xs) =
-    rw (keys_length xs, ← c.home_among-start.ensures.is) (part_one b k (keys_of xs) h c.scan.result e c.in-default.not-Full) in
+    rw (keys_length xs, ← c.home_among-start.ensures.is) (part_one b k (keys_of xs) h c.scan.result e c.in_default.not-Full) in
     record { answer = a; within = subst (λ (n : ℕ). Within c.scan.result n) (keys_length xs) (probed_within b k (keys_of xs) _ a) }

@@ -11,14 +11,14 @@ returns-then-index-payload g c =
 space : (g : given.Over) (c : goal.Else-index-payload g) → c.args.index * c.width-width.result + c.width-width.result ≤ length c.args.payload.now
 space g c = piece_space g.F.Key.key g.F.Key.width c.width-width.result c.width-width.ensures g.met.F.Fingerprint.some c.args.payload.now c.args.index c.if-index-payload.false
 
-pub overflow-mul-index : goal.overflow-mul-index
-overflow-mul-index g c = let h = space g c in search rules
+pub overflow_mul-index : goal.overflow_mul-index
+overflow_mul-index g c = let h = space g c in search rules
 
-pub slice-bounds-read-count : goal.slice-bounds-read-count
-slice-bounds-read-count g c = let h = space g c in search rules
+pub slice_bounds-read-count : goal.slice_bounds-read-count
+slice_bounds-read-count g c = let h = space g c in search rules
 
-pub slice-bounds-read-start : goal.slice-bounds-read-start
-slice-bounds-read-start g c = let h = space g c in search rules
+pub slice_bounds-read-start : goal.slice_bounds-read-start
+slice_bounds-read-start g c = let h = space g c in search rules
 
 pub returns : goal.returns
 returns g c =

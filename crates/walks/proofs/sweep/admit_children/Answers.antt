@@ -9,11 +9,11 @@ use Rattle.walks.proofs.Grounds.{Ground, grounded}
 use Rattle.walks.proofs.sweep.admit_children.Goals as goal
 
 abbrev ground : (g : given.Over) → g.row.D.Denot → Ground g.row.D-Kind.Denot
-ground g = grounded g.Kind.Key g.met.Kind.Key.any g.met.Kind.Key.back g.D.Device g.met.D.Device.held
+ground g = grounded g.D.Kind.Key g.met.D.Kind.Key.any g.met.D.Kind.Key.back g.D.Device g.met.D.Device.held
 
 pub returns-in-Ok : goal.returns-in-Ok
 returns-in-Ok g c payload root slots done p r s f e =
-    let k = g.Kind.Key in
+    let k = g.D.Kind.Key in
     let d = c.args.device.now in
     let cs = g.D.Device.contents d in
     let ys = keys_of c.admit_pieces.new.table in

@@ -11,40 +11,40 @@ use Rattle.walks.proofs.Visiting.{passed_err, node_more}
 use Rattle.walks.proofs.sweep.visit_container.Given as given
 use Rattle.walks.proofs.sweep.visit_container.Goals as goal
 use Rattle.walks.proofs.Grounds.{Ground, grounded}
-use Rattle.walks.proofs.sweep.visit_container.Goals.{in-Ok-fingerprint+in-ok-visit-node, in-default-fingerprint}
+use Rattle.walks.proofs.sweep.visit_container.Goals.{in-Ok-fingerprint+in_ok-visit_node, in_default-fingerprint}
 
 abbrev ground : (g : given.Over) → g.row.D.Denot → Ground g.row.D-Kind.Denot
-ground g = grounded g.Kind.Key g.met.Kind.Key.any g.met.Kind.Key.back g.D.Device g.met.D.Device.held
+ground g = grounded g.D.Kind.Key g.met.D.Kind.Key.any g.met.D.Kind.Key.back g.D.Device g.met.D.Device.held
 
-pub returns-in-default : goal.returns-in-default
-returns-in-default g c done root slots s =
-    let k = g.Kind.Key in
+pub returns-in_default : goal.returns-in_default
+returns-in_default g c done root slots s =
+    let k = g.D.Kind.Key in
     let cs = g.D.Device.contents c.args.device.now in
-    subst (λ (rs : List Rec). Sweep k.bytes k.width cs root slots c.args.level (map (λ r. r.fingerprint) rs ++ done) (keys_of c.args.table.now)) (sym (none_of cs c.args.container c.in-default.field-0 c.in-default.ensures)) s
+    subst (λ (rs : List Rec). Sweep k.bytes k.width cs root slots c.args.level (map (λ r. r.fingerprint) rs ++ done) (keys_of c.args.table.now)) (sym (none_of cs c.args.container c.in_default.field-0 c.in_default.ensures)) s
 
 pub returns-in_err-visit_node : goal.returns-in_err-visit_node
 returns-in_err-visit_node g c done root slots s =
-    passed_err g.Kind.Key.width (g.D.Device.contents c.args.device.now) root slots _ c.from-residual.result c.in_err-visit_node.field-0.0 c.from-residual.ensures.1
+    passed_err g.D.Kind.Key.width (g.D.Device.contents c.args.device.now) root slots _ c.from_residual.result c.in_err-visit_node.field-0.0 c.from_residual.ensures.1
     (c.in_err-visit_node.ensures _ root slots (c.loop-index.invariant root slots done s))
 
 pub loop-index-preserved : goal.loop-index-preserved
 loop-index-preserved g c root slots done s =
-    let k = g.Kind.Key in
+    let k = g.D.Kind.Key in
     let d = c.args.device.now in
     let cs = g.D.Device.contents d in
     let i = c.loop-index.invariant root slots done s in
     let After : List (Slot g.row.D-Kind.Denot) → Type 0 = λ t. Sweep k.bytes k.width cs root slots c.args.level (map (λ r. r.fingerprint) (take (c.loop-index.index + 1) (records_of cs c.args.container)) ++ done) (keys_of t) in
     elim c.match-fingerprint.branch [
-      | in-Ok-fingerprint+in-ok-visit-node w ↦ subst After (sym w.table-is)
+      | in-Ok-fingerprint+in_ok-visit_node w ↦ subst After (sym w.table-is)
           (node_more (ground g d) root slots c.args.level c.args.container c.loop-index.index w.in-Ok-fingerprint.node w.in-Ok-fingerprint.ensures done (keys_of w.visit_node.new.table) (w.in_ok-visit_node.ensures _ root slots i))
-      | in-default-fingerprint w ↦ absurd (
-          let past : length (records_of cs c.args.container) ≤ c.loop-index.index = nth_past (records_of cs c.args.container) c.loop-index.index (untold_none cs (record { container = c.args.container; index = c.loop-index.index }) (λ r. k.key r.fingerprint) w.in-default-fingerprint.field-0 w.in-default-fingerprint.ensures) in
+      | in_default-fingerprint w ↦ absurd (
+          let past : length (records_of cs c.args.container) ≤ c.loop-index.index = nth_past (records_of cs c.args.container) c.loop-index.index (untold_none cs (record { container = c.args.container; index = c.loop-index.index }) (λ r. k.key r.fingerprint) w.in_default-fingerprint.field-0 w.in_default-fingerprint.ensures) in
           omega (arith, c.loop-index-test.true, count_of cs c.args.container c.in-Ok.count c.in-Ok.ensures))
     ]
 
 pub returns : goal.returns
 returns g c done root slots s =
-    let k = g.Kind.Key in
+    let k = g.D.Kind.Key in
     let cs = g.D.Device.contents c.args.device.now in
     subst (λ (rs : List Rec). Sweep k.bytes k.width cs root slots c.args.level (map (λ r. r.fingerprint) rs ++ done) (keys_of c.loop-index.table))
     (take_all c.loop-index.index (records_of cs c.args.container) (omega (arith, c.loop-index-test.false, count_of cs c.args.container c.in-Ok.count c.in-Ok.ensures)))

@@ -6,11 +6,11 @@ use Rattle.walks.proofs.Grounds.{Ground, grounded}
 use Rattle.walks.proofs.sweep.visit_level.Goals as goal
 
 abbrev ground : (g : given.Over) → g.row.D.Denot → Ground g.row.D-Kind.Denot
-ground g = grounded g.Kind.Key g.met.Kind.Key.any g.met.Kind.Key.back g.D.Device g.met.D.Device.held
+ground g = grounded g.D.Kind.Key g.met.D.Kind.Key.any g.met.D.Kind.Key.back g.D.Device g.met.D.Device.held
 
 pub returns-in_err-visit_container : goal.returns-in_err-visit_container
 returns-in_err-visit_container g c root slots s =
-    passed_err g.Kind.Key.width (g.D.Device.contents c.args.device.now) root slots _ c.from-residual.result c.in_err-visit_container.field-0.0 c.from-residual.ensures.1
+    passed_err g.D.Kind.Key.width (g.D.Device.contents c.args.device.now) root slots _ c.from_residual.result c.in_err-visit_container.field-0.0 c.from_residual.ensures.1
     (c.in_err-visit_container.ensures _ root slots (c.loop-container.invariant root slots s))
 
 pub loop-container-preserved : goal.loop-container-preserved

@@ -7,7 +7,7 @@ use Rattle.walks.proofs.Grounds.{Ground, grounded}
 use Rattle.walks.proofs.sweep.visit_node.Goals as goal
 
 abbrev ground : (g : given.Over) → g.row.D.Denot → Ground g.row.D-Kind.Denot
-ground g = grounded g.Kind.Key g.met.Kind.Key.any g.met.Kind.Key.back g.D.Device g.met.D.Device.held
+ground g = grounded g.D.Kind.Key g.met.D.Kind.Key.any g.met.D.Kind.Key.back g.D.Device g.met.D.Device.held
 
 pub returns-then-not-lookup : goal.returns-then-not-lookup
 returns-then-not-lookup g c done root slots s =
@@ -17,7 +17,7 @@ returns-then-not-lookup g c done root slots s =
 
 pub returns-in-Some : goal.returns-in-Some
 returns-in-Some g c done root slots s =
-    let k = g.Kind.Key in
+    let k = g.D.Kind.Key in
     let d = c.args.device.now in
     let cs = g.D.Device.contents d in
     let t = c.args.table.now in
