@@ -23,7 +23,7 @@ fn compared(stored: u8, held: &[u8], level: u8, payload: &[u8]) -> Presence
 
 // What the record at a place says of this level and these bytes.
 fn present_at<D: Device>(device: &D, place: Place, level: u8, payload: &[u8]) -> Presence
-    ensures { result ≡ present_as level payload.now (standing (contents device.now) place) }
+    ensures { result ≡ present_as level payload.now (standing (D.contents device.now) place) }
 {
     let Ok(stored) = device.level(place) else {
         return Presence::Absent;
@@ -42,7 +42,7 @@ pub fn presence_of<D: Device>(
     fingerprint: D::Kind,
     payload: &[u8],
 ) -> Presence
-    ensures { result ≡ presence_of (contents device.now) (record { level = level; fingerprint = D.Kind.Key.bytes fingerprint; payload = payload.now }) }
+    ensures { result ≡ presence_of (D.contents device.now) (record { level = level; fingerprint = D.Kind.Key.bytes fingerprint; payload = payload.now }) }
 {
     match device.first_place(fingerprint) {
         None => Presence::Absent,

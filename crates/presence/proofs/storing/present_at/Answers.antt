@@ -6,10 +6,10 @@ use Rattle.presence.specs.Presences.{present_as}
 use Rattle.presence.proofs.Looking.{present_told}
 use Rattle.presence.proofs.storing.present_at.Goals as goal
 
-pub returns-in-default : goal.returns-in-default
-returns-in-default g c =
+pub returns-in_default : goal.returns-in_default
+returns-in_default g c =
     let cs = g.D.Device.contents c.args.device.now in
-    sym (ap (present_as c.args.level c.args.payload.now) (untold_none cs c.args.place (λ r. r.level) c.in-default.field-0 c.in-default.ensures))
+    sym (ap (present_as c.args.level c.args.payload.now) (untold_none cs c.args.place (λ r. r.level) c.in_default.field-0 c.in_default.ensures))
 
 pub returns-in-Ok-payload : goal.returns-in-Ok-payload
 returns-in-Ok-payload g c =
@@ -21,4 +21,4 @@ returns-in-Ok-payload g c =
 pub returns-in-Err : goal.returns-in-Err
 returns-in-Err g c =
     let cs = g.D.Device.contents c.args.device.now in
-    sym (ap (present_as c.args.level c.args.payload.now) (not_copied cs c.args.place g.Kind.Key.width (g.met.D.Device.held c.args.device.now) c.in-Err.field-0 7168 (lit≤ tt) c.in-Err.ensures.answer))
+    sym (ap (present_as c.args.level c.args.payload.now) (not_copied cs c.args.place g.D.Kind.Key.width (g.met.D.Device.held c.args.device.now) c.in-Err.field-0 7168 (lit≤ tt) c.in-Err.ensures.answer))

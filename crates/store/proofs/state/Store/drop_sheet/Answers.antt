@@ -8,7 +8,7 @@ use Rattle.store.proofs.state.Store.drop_sheet.Goals as goal
 
 pub returns-in-Ok : goal.returns-in-Ok
 returns-in-Ok g c =
-    let s = model g.D.Device g.Kind.Key.bytes c.args.self.now in
+    let s = model g.D.Device g.D.Kind.Key.bytes c.args.self.now in
     let ts = drop_tests s c.args.name.now in
     let h = c.in-Ok.ensures in
     record {
@@ -20,7 +20,7 @@ returns-in-Ok g c =
 
 pub returns-in-Err : goal.returns-in-Err
 returns-in-Err g c =
-    let s = model g.D.Device g.Kind.Key.bytes c.args.self.now in
+    let s = model g.D.Device g.D.Kind.Key.bytes c.args.self.now in
     let ts = drop_tests s c.args.name.now in
     let h = c.in-Err.ensures in
     record { answer = stopped untold ts _ c.in-Err.refusal _ h; after = stopped_change untold ts _ c.in-Err.refusal s _ h }

@@ -9,13 +9,13 @@ use Rattle.store.proofs.state.Store.open.Goals as goal
 
 pub overflow-add-readings : goal.overflow-add-readings
 overflow-add-readings g c =
-    let s = model g.D.Device g.Kind.Key.bytes c.args.self.now in
+    let s = model g.D.Device g.D.Kind.Key.bytes c.args.self.now in
     let few = opened_few s c.args.name.now c.in-Ok.entry c.readings-readings.result c.in-Ok.ensures c.readings-readings.ensures in
     omega arith
 
 pub returns-in-Ok : goal.returns-in-Ok
 returns-in-Ok g c =
-    let s = model g.D.Device g.Kind.Key.bytes c.args.self.now in
+    let s = model g.D.Device g.D.Kind.Key.bytes c.args.self.now in
     let ts = open_tests s c.args.name.now in
     let h = c.in-Ok.ensures in
     let v = passed_value untold ts _ c.in-Ok.entry h in
@@ -29,7 +29,7 @@ returns-in-Ok g c =
 
 pub returns-in-Err : goal.returns-in-Err
 returns-in-Err g c =
-    let s = model g.D.Device g.Kind.Key.bytes c.args.self.now in
+    let s = model g.D.Device g.D.Kind.Key.bytes c.args.self.now in
     let ts = open_tests s c.args.name.now in
     let h = c.in-Err.ensures in
     record { answer = stopped untold ts _ c.in-Err.refusal _ h; after = stopped_change untold ts _ c.in-Err.refusal s _ h }

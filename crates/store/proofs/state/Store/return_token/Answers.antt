@@ -8,8 +8,8 @@ use Rattle.store.proofs.state.Store.return_token.Goals as goal
 
 pub returns-in-Err : goal.returns-in-Err
 returns-in-Err g c =
-    let w = g.Kind.Key.width in
-    let s = model g.D.Device g.Kind.Key.bytes c.args.self.now in
+    let w = g.D.Kind.Key.width in
+    let s = model g.D.Device g.D.Kind.Key.bytes c.args.self.now in
     let token = c.args.token in
     let h = c.in-Err.ensures in
     record {
@@ -19,8 +19,8 @@ returns-in-Err g c =
 
 pub returns-in-Ok : goal.returns-in-Ok
 returns-in-Ok g c =
-    let w = g.Kind.Key.width in
-    let s = model g.D.Device g.Kind.Key.bytes c.args.self.now in
+    let w = g.D.Kind.Key.width in
+    let s = model g.D.Device g.D.Kind.Key.bytes c.args.self.now in
     let token = c.args.token in
     let h = c.in-Ok.ensures in
     record {
