@@ -3,11 +3,11 @@
 
 pub mod entries;
 pub mod name;
-mod search;
+pub mod search;
 pub mod sheet;
 pub mod upkeep;
 
 pub use entries::Catalogue;
 pub use name::Name;
-pub use search::is_nameable;
+pub use search::{find, is_nameable, vacancy};
 pub use sheet::Sheet;

@@ -3,12 +3,10 @@ ghost use Rattle.std.specs.Prelude.{◌≡◌, ◌≤◌, ◌&&◌, length, repl
 ghost use Rattle.std.specs.Option.{option_map};
 ghost use Rattle.keys.specs.Octets.{same_bytes};
 ghost use Rattle.catalogue.specs.Names.{glyph, printable, nameable, spelled};
-ghost use Rattle.catalogue.specs.Sheets.{kept_of, kept_all, is_named, is_vacant, entry_of, vacant_entry};
+ghost use Rattle.catalogue.specs.Sheets.{is_named, is_vacant, entry_of, vacant_entry};
 
 use crate::name::Name;
 use crate::sheet::Sheet;
-use keys::Key;
-use octets::same_bytes;
 
 // Whether a byte may stand in a name.
 fn is_glyph(byte: u8) -> bool
@@ -55,13 +53,28 @@ impl Name {
         ensures { result ≡ same_bytes (spelled self.now) bytes.now }
     {
         let len = self.len;
-        same_bytes(&self.bytes[0..len], bytes)
+        same(&self.bytes[0..len], bytes)
     }
 }
 
+// Whether two rows of bytes are the same.
+fn same(first: &[u8], second: &[u8]) -> bool
+    ensures { result ≡ same_bytes first.now second.now }
+{
+    if first.len() != second.len() {
+        return false;
+    }
+    for i in 0..first.len() {
+        if first[i] != second[i] {
+            return false;
+        }
+    }
+    true
+}
+
 // Whether an entry has a sheet of this name.
-fn has_name<F: Key>(entry: &Option<Sheet<F>>, name: &[u8]) -> bool
-    ensures { result ≡ is_named name.now (kept_of bytes entry.now) }
+fn has_name<F: Copy>(entry: &Option<Sheet<F>>, name: &[u8]) -> bool
+    ensures { result ≡ is_named name.now entry.now }
 {
     match entry {
         Some(sheet) => sheet.name.spells(name),
@@ -70,8 +83,8 @@ fn has_name<F: Key>(entry: &Option<Sheet<F>>, name: &[u8]) -> bool
 }
 
 // The first entry that has a sheet of this name, if any.
-pub(crate) fn find<F: Key>(sheets: &[Option<Sheet<F>>], name: &[u8]) -> Option<usize>
-    ensures { result ≡ entry_of name.now (kept_all bytes sheets.now) }
+pub fn find<F: Copy>(sheets: &[Option<Sheet<F>>], name: &[u8]) -> Option<usize>
+    ensures { result ≡ entry_of name.now sheets.now }
 {
     for (i, entry) in sheets.iter().enumerate() {
         if has_name(entry, name) {
@@ -82,8 +95,8 @@ pub(crate) fn find<F: Key>(sheets: &[Option<Sheet<F>>], name: &[u8]) -> Option<u
 }
 
 // Whether an entry is empty.
-fn is_vacant<F: Key>(entry: &Option<Sheet<F>>) -> bool
-    ensures { result ≡ is_vacant (kept_of bytes entry.now) }
+fn is_vacant<F: Copy>(entry: &Option<Sheet<F>>) -> bool
+    ensures { result ≡ is_vacant entry.now }
 {
     match entry {
         Some(_) => false,
@@ -92,8 +105,8 @@ fn is_vacant<F: Key>(entry: &Option<Sheet<F>>) -> bool
 }
 
 // The first empty entry, if any.
-pub(crate) fn vacancy<F: Key>(sheets: &[Option<Sheet<F>>]) -> Option<usize>
-    ensures { result ≡ vacant_entry (kept_all bytes sheets.now) }
+pub fn vacancy<F: Copy>(sheets: &[Option<Sheet<F>>]) -> Option<usize>
+    ensures { result ≡ vacant_entry sheets.now }
 {
     for (i, entry) in sheets.iter().enumerate() {
         if is_vacant(entry) {

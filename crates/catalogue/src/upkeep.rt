@@ -1,6 +1,6 @@
 // The calls of a catalogue.
-ghost use Rattle.std.specs.Prelude.{◌≡◌, ◌≤◌, length, replicate, None, slice_index_or, slice_set};
-ghost use Rattle.catalogue.specs.Sheets.{kept_of, kept_all, entry_of, vacant_entry, readings_of, readings_out};
+ghost use Rattle.std.specs.Prelude.{◌≡◌, ◌≤◌, All, length, replicate, None, slice_index_or, slice_set};
+ghost use Rattle.catalogue.specs.Sheets.{Counted, kept_of, kept_all, kept_entry_of, kept_vacant_entry, readings_of, readings_out};
 
 use crate::entries::Catalogue;
 use crate::search::{find, vacancy};
@@ -9,17 +9,20 @@ use keys::Key;
 
 // How many readings of an entry's sheet are out.
 fn readings_of<F: Key>(entry: &Option<Sheet<F>>) -> u8
-    ensures { result ≡ readings_of (kept_of bytes entry.now) }
+    requires { Counted entry.now }
+    ensures { result ≡ readings_of (kept_of F.Key.bytes entry.now) }
 {
     match entry {
-        Some(sheet) => sheet.readings,
+        Some(sheet) => sheet.readings as u8,
         None => 0,
     }
 }
 
 // What stands at an entry; nothing past the last one.
 fn sheet_in<F: Key>(entries: &[Option<Sheet<F>>], entry: usize) -> Option<Sheet<F>>
-    ensures { kept_of bytes result ≡ slice_index_or (kept_all bytes entries.now) entry None }
+    requires { All Counted entries.now }
+    ensures kept { kept_of F.Key.bytes result ≡ slice_index_or (kept_all F.Key.bytes entries.now) entry None }
+    ensures counted { Counted result }
 {
     if entry < entries.len() {
         entries[entry]
@@ -30,8 +33,9 @@ fn sheet_in<F: Key>(entries: &[Option<Sheet<F>>], entry: usize) -> Option<Sheet<
 
 // How many readings of the sheets of at most 64 entries are out.
 fn readings_in<F: Key>(entries: &[Option<Sheet<F>>]) -> usize
-    requires { length entries.now ≤ 64 }
-    ensures { result ≡ readings_out (kept_all bytes entries.now) }
+    requires few { length entries.now ≤ 64 }
+    requires counted { All Counted entries.now }
+    ensures { result ≡ readings_out (kept_all F.Key.bytes entries.now) }
 {
     let mut out: usize = 0;
     for entry in entries {
@@ -43,7 +47,7 @@ fn readings_in<F: Key>(entries: &[Option<Sheet<F>>]) -> usize
 impl<F: Key> Catalogue<F> {
     // A catalogue without sheets.
     pub fn new() -> Self
-        ensures { kept_all bytes result.entries ≡ replicate 64 None }
+        ensures { kept_all F.Key.bytes result.entries ≡ replicate 64 None }
     {
         Catalogue {
             entries: [None; 64],
@@ -59,35 +63,37 @@ impl<F: Key> Catalogue<F> {
 
     // The first entry that has a sheet of this name, if any.
     pub fn entry_of(&self, name: &[u8]) -> Option<usize>
-        ensures { result ≡ entry_of name.now (kept_all bytes self.now.entries) }
+        ensures { result ≡ kept_entry_of name.now (kept_all F.Key.bytes self.now.entries) }
     {
         find(&self.entries, name)
     }
 
     // The first empty entry, if any.
     pub fn vacant_entry(&self) -> Option<usize>
-        ensures { result ≡ vacant_entry (kept_all bytes self.now.entries) }
+        ensures { result ≡ kept_vacant_entry (kept_all F.Key.bytes self.now.entries) }
     {
         vacancy(&self.entries)
     }
 
-    // What stands at an entry; nothing past the last one.
+    // What stands at an entry; nothing past the last one. A byte counts its readings that are out.
     pub fn sheet(&self, entry: usize) -> Option<Sheet<F>>
-        ensures { kept_of bytes result ≡ slice_index_or (kept_all bytes self.now.entries) entry None }
+        ensures kept { kept_of F.Key.bytes result ≡ slice_index_or (kept_all F.Key.bytes self.now.entries) entry None }
+        ensures counted { Counted result }
     {
         sheet_in(&self.entries, entry)
     }
 
     // How many readings of the sheet at an entry are out.
     pub fn readings(&self, entry: usize) -> u8
-        ensures { result ≡ readings_of (slice_index_or (kept_all bytes self.now.entries) entry None) }
+        ensures { result ≡ readings_of (slice_index_or (kept_all F.Key.bytes self.now.entries) entry None) }
     {
         readings_of(&self.sheet(entry))
     }
 
     // Puts a sheet at an entry, or takes away what stands there; past the last entry nothing changes.
     pub fn put(&mut self, entry: usize, sheet: Option<Sheet<F>>)
-        ensures { kept_all bytes self.new.entries ≡ slice_set (kept_all bytes self.old.entries) entry (kept_of bytes sheet) }
+        requires { Counted sheet }
+        ensures { kept_all F.Key.bytes self.new.entries ≡ slice_set (kept_all F.Key.bytes self.old.entries) entry (kept_of F.Key.bytes sheet) }
     {
         if entry < 64 {
             self.entries[entry] = sheet;
@@ -96,7 +102,7 @@ impl<F: Key> Catalogue<F> {
 
     // How many readings are out in all.
     pub fn readings_out(&self) -> usize
-        ensures { result ≡ readings_out (kept_all bytes self.now.entries) }
+        ensures { result ≡ readings_out (kept_all F.Key.bytes self.now.entries) }
     {
         readings_in(&self.entries)
     }

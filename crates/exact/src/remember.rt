@@ -11,7 +11,7 @@ use slots::Slot;
 
 // Starts the set, and has it learn the keys in order, as far as there is space.
 pub fn learn_all<K: Key>(set: &mut ExactTable<K>, keys: &[K])
-    ensures { Taught bytes set.old keys.now set.new }
+    ensures { Taught K.bytes set.old keys.now set.new }
 {
     set.start();
     for key in keys {
@@ -21,7 +21,7 @@ pub fn learn_all<K: Key>(set: &mut ExactTable<K>, keys: &[K])
 
 // Seals the set, and marks the keys.
 pub fn mark_all<K: Key>(set: &mut ExactTable<K>, keys: &[K])
-    ensures { Marked bytes set.old keys.now set.new }
+    ensures { Marked K.bytes set.old keys.now set.new }
 {
     set.seal();
     for key in keys {
@@ -31,8 +31,8 @@ pub fn mark_all<K: Key>(set: &mut ExactTable<K>, keys: &[K])
 
 // A sealed set over these slots that learned the first keys, as many as there are slots, and then had the second marked.
 pub fn remember<K: Key>(slots: Vec<Slot<K>>, learned: &[K], marked: &[K]) -> ExactTable<K>
-    ensures covers { (x : K) → (exact_meaning bytes).covers result x ≡ listed bytes (take (length slots.items) learned.now) x }
-    ensures says { (x : K) → (exact_meaning bytes).says result x ≡ (listed bytes marked.now x && listed bytes (take (length slots.items) learned.now) x) }
+    ensures covers { (x : K) → (exact_meaning K.bytes).covers result x ≡ listed K.bytes (take (length slots.items) learned.now) x }
+    ensures says { (x : K) → (exact_meaning K.bytes).says result x ≡ (listed K.bytes marked.now x && listed K.bytes (take (length slots.items) learned.now) x) }
 {
     let mut set = ExactTable::over(slots);
     learn_all(&mut set, learned);

@@ -12,10 +12,10 @@ use slots::Slot;
 impl<K: Key> ExactTable<K> {
     // A table that has learned nothing, over these slots.
     pub fn over(slots: Vec<Slot<K>>) -> Self
-        ensures own { ExactStart bytes result }
-        ensures capacity { (exact_meaning bytes).capacity result ≡ length slots.items }
-        ensures count { (exact_meaning bytes).count result ≡ 0 }
-        ensures sealed { (exact_meaning bytes).sealed result ≡ false }
+        ensures own { ExactStart K.bytes result }
+        ensures capacity { (exact_meaning K.bytes).capacity result ≡ length slots.items }
+        ensures count { (exact_meaning K.bytes).count result ≡ 0 }
+        ensures sealed { (exact_meaning K.bytes).sealed result ≡ false }
     {
         let mut slots = slots;
         empty_all(&mut slots);
@@ -33,23 +33,23 @@ impl<K: Key> ExactTable<K> {
 }
 
 impl<K: Key> LiveSet<K> for ExactTable<K> {
-    ghost meaning = { exact_meaning bytes };
+    ghost meaning = { exact_meaning K.bytes };
 
     fn capacity(&self) -> usize {
         self.intake.capacity()
     }
 
     fn start(&mut self)
-        ensures effect { Started (exact_meaning bytes) self.old self.new }
-        ensures own { ExactStart bytes self.new }
+        ensures effect { Started (exact_meaning K.bytes) self.old self.new }
+        ensures own { ExactStart K.bytes self.new }
     {
         empty_all(&mut self.slots);
         self.intake.start();
     }
 
     fn learn(&mut self, key: K) -> bool
-        ensures effect { Learned (exact_meaning bytes) self.old key result self.new }
-        ensures own { ExactLearn bytes self.old key result self.new }
+        ensures effect { Learned (exact_meaning K.bytes) self.old key result self.new }
+        ensures own { ExactLearn K.bytes self.old key result self.new }
     {
         if !self.intake.learn() {
             return false;
@@ -59,16 +59,16 @@ impl<K: Key> LiveSet<K> for ExactTable<K> {
     }
 
     fn seal(&mut self)
-        ensures effect { Sealed (exact_meaning bytes) self.old self.new }
-        ensures own { ExactSeal bytes self.old self.new }
+        ensures effect { Sealed (exact_meaning K.bytes) self.old self.new }
+        ensures own { ExactSeal K.bytes self.old self.new }
     {
         unmark_all(&mut self.slots);
         self.intake.seal();
     }
 
     fn mark(&mut self, key: K)
-        ensures effect { Noted (exact_meaning bytes) self.old key self.new }
-        ensures own { ExactMark bytes self.old key self.new }
+        ensures effect { Noted (exact_meaning K.bytes) self.old key self.new }
+        ensures own { ExactMark K.bytes self.old key self.new }
     {
         if self.intake.is_sealed() {
             mark_in(&mut self.slots, key);

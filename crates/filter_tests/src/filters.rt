@@ -8,7 +8,7 @@ use std::test::Fail;
 // A sealed filter over so many bytes, each 0xaa before, with two keys of two kinds marked.
 fn with_two_marks(heap: Global, long: usize) -> Result<BloomFilter, Fail> {
     let mut filter = BloomFilter::over(vec![in heap; 0xaau8; long]?);
-    BloomLiveSet::<Fnv>::seal(&mut filter);
+    <BloomFilter as LiveSet<Fnv>>::seal(&mut filter);
     filter.mark(Fnv { number: 77 });
     filter.mark(Pair {
         level: 3,
@@ -48,7 +48,7 @@ fn one_byte(rt: HostRuntime) -> Result<(), Fail> {
     assert_eq!(rt; weighed(with_two_marks(rt.alloc(), 1)?), 215);
     let mut filter = BloomFilter::over(vec![in rt.alloc(); 0u8; 1]?);
     assert_eq!(rt; says_of(&filter), 0xffff_ffff_ffff_ffff);
-    BloomLiveSet::<Fnv>::seal(&mut filter);
+    <BloomFilter as LiveSet<Fnv>>::seal(&mut filter);
     assert_eq!(rt; says_of(&filter), 0);
     filter.mark(Fnv { number: 77 });
     assert_eq!(rt; says_of(&filter), 0x2020_2020_2020_2020);
@@ -58,7 +58,7 @@ fn one_byte(rt: HostRuntime) -> Result<(), Fail> {
 #[test]
 fn three_bytes_say_yes_to_a_fourth_key(rt: HostRuntime) -> Result<(), Fail> {
     let mut filter = BloomFilter::over(vec![in rt.alloc(); 0u8; 3]?);
-    BloomLiveSet::<Fnv>::seal(&mut filter);
+    <BloomFilter as LiveSet<Fnv>>::seal(&mut filter);
     for n in 1..4u64 {
         filter.mark(Fnv { number: n });
     }
@@ -85,10 +85,10 @@ fn learns_2016_keys(rt: HostRuntime) -> Result<(), Fail> {
         assert!(rt; filter.learn(Fnv { number: n % 1000 }));
     }
     assert!(rt; !filter.learn(Fnv { number: 3 }));
-    BloomLiveSet::<Fnv>::start(&mut filter);
+    <BloomFilter as LiveSet<Fnv>>::start(&mut filter);
     assert!(rt; filter.learn(Fnv { number: 3 }));
-    BloomLiveSet::<Fnv>::seal(&mut filter);
+    <BloomFilter as LiveSet<Fnv>>::seal(&mut filter);
     assert!(rt; !filter.learn(Fnv { number: 3 }));
-    assert_eq!(rt; BloomLiveSet::<Fnv>::capacity(&filter), 2016);
+    assert_eq!(rt; <BloomFilter as LiveSet<Fnv>>::capacity(&filter), 2016);
     Ok(())
 }

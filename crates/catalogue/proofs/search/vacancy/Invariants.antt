@@ -1,7 +1,7 @@
 use Rattle.std.proofs.Common.{◌≡◌, drop}
-use Rattle.catalogue.specs.Sheets.{kept_all, is_vacant, first_from, vacant_entry}
+use Rattle.catalogue.specs.Sheets.{is_vacant, first_from, vacant_entry}
 use Rattle.catalogue.proofs.search.vacancy.Given as goal
 
 -- from this entry on the search finds what it finds from the first
 abbrev pub invariant-loop-i : goal.invariant-loop-i
-invariant-loop-i g l = first_from is_vacant l.i (kept_all g.F.Key.bytes (drop l.i l.sheets)) ≡ vacant_entry (kept_all g.F.Key.bytes l.sheets)
+invariant-loop-i g l = first_from (is_vacant) l.i (drop l.i l.sheets) ≡ vacant_entry l.sheets

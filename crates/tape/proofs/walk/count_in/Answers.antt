@@ -10,8 +10,8 @@ loop-i-init c = counted_none _ _ _ _ c.requires
 pub head_at-head-requires : goal.head_at-head-requires
 head_at-head-requires c = space _ _ _ _ _ c.loop-i.invariant.on (turn_in _ _ _ _ c.loop-i-test.true)
 
-pub overflow-add-payload : goal.overflow-add-payload
-overflow-add-payload c =
+pub overflow_add-payload : goal.overflow_add-payload
+overflow_add-payload c =
     let r = space _ _ _ _ _ c.loop-i.invariant.on (turn_in _ _ _ _ c.loop-i-test.true) in
     let s = c.loop-i.invariant.small in
     let l = c.head_at-head.ensures.len in

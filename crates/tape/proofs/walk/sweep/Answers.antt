@@ -15,7 +15,7 @@ copy_within-requires c =
     let r = space _ _ _ _ _ c.loop-i.invariant.on (turn_in _ _ _ _ c.loop-i-test.true) in
     let n = c.head_at-head.ensures.next in
     let b = c.loop-i.invariant.behind in
-    record { start-le-end = omega arith; in_bounds = omega arith; dest-in-bounds = omega arith; not-exhausted = tt }
+    record { start_le_end = omega arith; in_bounds = omega arith; dest_in_bounds = omega arith; not_exhausted = tt }
 
 pub loop-i-preserved : goal.loop-i-preserved
 loop-i-preserved c =

@@ -1,11 +1,6 @@
-use Rattle.std.proofs.Common.{arith}
 use Rattle.std.proofs.lemmas.List.{map-set}
 use Rattle.catalogue.specs.Sheets.{kept_of}
-use Rattle.catalogue.proofs.Rows.{set_past_kept}
 use Rattle.catalogue.proofs.entries.Catalogue.put.Goals as goal
 
 pub returns-then-entry-lt64 : goal.returns-then-entry-lt64
 returns-then-entry-lt64 g c = map-set (kept_of g.F.Key.bytes) c.args.self.now.entries c.args.entry c.args.sheet
-
-pub returns-else-entry-lt64 : goal.returns-else-entry-lt64
-returns-else-entry-lt64 g c = set_past_kept g.F.Key.bytes c.args.self.now.entries c.args.entry (kept_of g.F.Key.bytes c.args.sheet) (omega (arith, c.args.self.now.long, c.if-entry-lt64.false))

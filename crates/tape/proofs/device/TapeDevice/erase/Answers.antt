@@ -16,13 +16,13 @@ pub sweep-left-requires : goal.sweep-left-requires
 sweep-left-requires g c =
     logged_seen _ _ _ _ _ _ _ c.args.self.now.good refl c.deref_mut.ensures.value
 
-pub invariant-of-self : goal.invariant-of-self
-invariant-of-self g c =
+pub invariant_of-self : goal.invariant_of-self
+invariant_of-self g c =
     let t = c.args.self.now in
     let kept = c.sweep-left.auto.bytes in
     let s = c.sweep-left.ensures in
     let done = swept g.F.Key.width _ _ _ _ c.args.container _ _ _ _ _ _ t.good c.deref_mut.ensures.value kept (refill t.bytes _ _ c.deref_mut.ensures.value kept) (record { entries = s.entries; size = s.used; after = s.after }) in
-    (∣ done.0 ∣₁, tt)
+    record { good = ∣ done.0 ∣₁ }
 
 pub returns : goal.returns
 returns g c =

@@ -6,13 +6,13 @@ use Rattle.tape.specs.Holding.{good_empty}
 use Rattle.tape.specs.Seen.{sized, countable_few, held_same}
 use Rattle.tape.proofs.tape.Tape.lay_out.Goals as goal
 
-pub invariant-of-result : goal.invariant-of-result
-invariant-of-result g c =
+pub invariant_of-result : goal.invariant_of-result
+invariant_of-result g c =
     let s = sized c.args.n c.in-Some.size _ c.in-Some.ensures in
     let w = c.width.ensures in
     let narrow : c.width.result ≤ 20 = (let t = g.met.F.Key.narrow in omega arith) in
     let long : length (vec_items c.args.bytes) ≡ tape_size g.F.Key.width c.args.n = sym c.args.bytes.ok.0 ∙ sym c.len.ensures ∙ c.if-len-size.false ∙ s.1 in
-    (∣ good_empty c.width.result c.args.n (vec_items c.args.bytes) narrow (countable_few c.args.n s.0) (long ∙ ap (λ x. tape_size x c.args.n) (sym w)) ∣₁, tt)
+    record { good = ∣ good_empty c.width.result c.args.n (vec_items c.args.bytes) narrow (countable_few c.args.n s.0) (long ∙ ap (λ x. tape_size x c.args.n) (sym w)) ∣₁ }
 
 pub returns : goal.returns
 returns g c =

@@ -8,26 +8,26 @@ use Rattle.tape.specs.Sizes.{Good}
 use Rattle.tape.specs.Seen.{push_small, push_space, push_few, pushed, refill}
 use Rattle.tape.proofs.tape.Tape.push.Given as given
 use Rattle.tape.proofs.tape.Tape.push.Goals as goal
-use Rattle.tape.proofs.tape.Tape.push.Goals.{After-deref-mut, After-width}
+use Rattle.tape.proofs.tape.Tape.push.Goals.{After-deref_mut, After-width}
 
-abbrev entry : (g : given.Over) → goal.After-deref-mut g → Entry
+abbrev entry : (g : given.Over) → goal.After-deref_mut g → Entry
 entry g c = record { container = c.args.container; stored = record { level = c.args.level; fingerprint = g.F.Key.bytes c.args.fingerprint; payload = c.args.payload.now } }
 
-sound : (g : given.Over) (c : goal.After-deref-mut g) → Sound g.F.Key.width (entry g c)
+sound : (g : given.Over) (c : goal.After-deref_mut g) → Sound g.F.Key.width (entry g c)
 sound g c = record {
   typed = record {
     wide = g.met.F.Key.long c.args.fingerprint;
     fingerprint = g.met.F.Key.octets c.args.fingerprint;
-    payload = All-from_get_or (λ b. b < 256) c.args.payload.now 0 (λ i h. let f = c.type-inv.payload i in omega arith);
+    payload = All-from_get_or (λ b. b < 256) c.args.payload.now 0 (λ i h. let f = c.type_inv.payload i in omega arith);
   };
   few = c.requires.short;
 }
 
-space : (g : given.Over) (c : goal.After-deref-mut g) → c.args.self.now.used + (g.F.Key.width + 4 + length c.args.payload.now) ≤ length (vec_items c.args.self.now.bytes)
+space : (g : given.Over) (c : goal.After-deref_mut g) → c.args.self.now.used + (g.F.Key.width + 4 + length c.args.payload.now) ≤ length (vec_items c.args.self.now.bytes)
 space g c = push_space _ _ _ _ _ _ c.args.self.now.good (entry g c) c.requires.here (sound g c) c.requires.one c.requires.all
 
-pub overflow-cast-container : goal.overflow-cast-container
-overflow-cast-container g c = let small = push_small _ _ _ _ _ _ c.args.self.now.good (entry g c) c.requires.here (sound g c) c.requires.one c.requires.all in omega arith
+pub overflow_cast-container : goal.overflow_cast-container
+overflow_cast-container g c = let small = push_small _ _ _ _ _ _ c.args.self.now.good (entry g c) c.requires.here (sound g c) c.requires.one c.requires.all in omega arith
 
 pub add_entry-requires : goal.add_entry-requires
 add_entry-requires g c =
@@ -35,18 +35,18 @@ add_entry-requires g c =
     let l = ap length c.deref_mut.ensures.value in
     record { space = omega arith; short = c.requires.short }
 
-pub overflow-add-self : goal.overflow-add-self
-overflow-add-self g c =
-    let d = (goal.at.overflow-add-self g c).After-deref-mut in
+pub overflow_add-self : goal.overflow_add-self
+overflow_add-self g c =
+    let d = (goal.at.overflow_add-self g c).After-deref_mut in
     let t = c.args.self.now in
     let few = push_few _ _ _ _ _ _ t.good (entry g d) c.requires.here (sound g d) c.requires.one c.requires.all in
     let l = t.bytes.ok in
     let s = t.bytes.small in
     omega arith
 
-pub overflow-add-self-4 : goal.overflow-add-self-4
-overflow-add-self-4 g c =
-    let r = space g (goal.at.invariant-of-self g c).After-deref-mut in
+pub overflow_add-self-4 : goal.overflow_add-self-4
+overflow_add-self-4 g c =
+    let r = space g (goal.at.invariant_of-self g c).After-deref_mut in
     let w = c.width.ensures in
     let l = c.args.self.now.bytes.ok in
     let s = c.args.self.now.bytes.small in
@@ -54,15 +54,15 @@ overflow-add-self-4 g c =
 
 done : (g : given.Over) (c : goal.After-width g) → let t = c.args.self.now in let bs = vec_items (with_items t.bytes c.add_entry.new.bytes) in
     Good t.width t.containers (t.entries + 1) (t.used + (c.width.result + 4 + length c.args.payload.now)) bs
-    × (held_at g.F.Key.width t.width t.containers (t.entries + 1) bs ≡ appended (held_by g.F.Key.width t) c.args.container (entry g (goal.at.invariant-of-self g c).After-deref-mut).stored)
+    × (held_at g.F.Key.width t.width t.containers (t.entries + 1) bs ≡ appended (held_by g.F.Key.width t) c.args.container (entry g (goal.at.invariant_of-self g c).After-deref_mut).stored)
 done g c =
-    let d = (goal.at.invariant-of-self g c).After-deref-mut in
+    let d = (goal.at.invariant_of-self g c).After-deref_mut in
     let t = c.args.self.now in
     let kept = c.add_entry.auto.bytes in
     pushed _ _ _ _ _ _ t.good (entry g d) c.requires.here (sound g d) c.requires.one c.requires.all _ _ _ _ (ap (λ w. t.used + (w + 4 + length c.args.payload.now)) c.width.ensures) c.deref_mut.ensures.value kept (refill t.bytes _ _ c.deref_mut.ensures.value kept) c.add_entry.ensures
 
-pub invariant-of-self : goal.invariant-of-self
-invariant-of-self g c = (∣ (done g c).0 ∣₁, tt)
+pub invariant_of-self : goal.invariant_of-self
+invariant_of-self g c = record { good = ∣ (done g c).0 ∣₁ }
 
 pub returns : goal.returns
 returns g c = (done g (goal.at.returns g c).After-width).1
