@@ -2,6 +2,8 @@
 use Rattle.std.proofs.Common.{◌≡◌, ℕ, zero, suc, ◌+◌, ◌-◌, ◌*◌, ◌≤◌, List, [], ◌++◌, length, take, replicate, vec_items, sym, refl, ap, ◌∙◌, subst, suc-mul, add_comm, zero-mul, arith}
 use Rattle.std.proofs.lemmas.List.{length-replicate, replicate-append-replicate, drop_all, append-nil, take_all}
 use Rattle.std.specs.List.{AllByRecursion}
+use Rattle.keys.specs.declared.fingerprint.Fingerprint as fingerprint
+use Rattle.keys.specs.declared.key.Key as key
 use Rattle.records.specs.Limits.{Stored, Limits}
 use Rattle.records.specs.Records.{Rec}
 use Rattle.container_format.specs.Layout.{container_size, file}
@@ -46,7 +48,7 @@ laid w n bs after narrow count is =
     }
 
 -- the bytes of a file that holds containers are the file of what it holds
-pub whole_bytes : {F : Type 0} (w : ℕ) (s : ContainerFile F) → 1 ≤ length (contents_of w s) → Limits w (contents_of w s) × (vec_items s.bytes ≡ file w (contents_of w s))
+pub whole_bytes : {F : Type 0} {g : fingerprint.Ghosts F} {k : key.Ghosts F} (w : ℕ) (s : ContainerFile F g k) → 1 ≤ length (contents_of w s) → Limits w (contents_of w s) × (vec_items s.bytes ≡ file w (contents_of w s))
 whole_bytes w s h =
     let here = held_here w s 0 (omega arith) in
     let bs = vec_items s.bytes in

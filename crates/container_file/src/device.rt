@@ -95,8 +95,8 @@ impl<F: Fingerprint> Device for ContainerFile<F> {
     }
 
     fn erase(&mut self, container: usize) -> Result<(), Refusal>
-        ensures answer { result ≡ erase_answer (contents_of F-as-Key.width self.old) container }
-        ensures after { contents_of F-as-Key.width self.new ≡ erased (contents_of F-as-Key.width self.old) container }
+        ensures answer { result ≡ erase_answer (contents_of F.Key.width self.old) container }
+        ensures after { contents_of F.Key.width self.new ≡ erased (contents_of F.Key.width self.old) container }
         ensures untouched { is_ok result ≡ false → self.new.bytes ≡ self.old.bytes }
     {
         if !self.has(container) {

@@ -6,7 +6,7 @@ use Rattle.records.specs.declared.refusal.Cause.TheVariants.{Shut, MarkingOpen, 
 use Rattle.records.specs.declared.refusal.Refusal.{Refusal}
 use Rattle.trees.specs.Holding.{if_some}
 use Rattle.catalogue.specs.Names.{nameable, spelled}
-use Rattle.catalogue.specs.Sheets.{entry_of, vacant_entry}
+use Rattle.catalogue.specs.Sheets.{kept_entry_of, kept_vacant_entry}
 use Rattle.catalogue.specs.declared.name.Name.{Name}
 use Rattle.store.specs.States.{State}
 use Rattle.store.specs.Keeping.{entry_answer}
@@ -36,18 +36,18 @@ module _ (w : ℕ) (s : State) (name root : List ℕ) (slots : ℕ) where
   module _ (admitted : s.admitted ≡ true) (idle : s.marking ≡ false) where
     pub entry_unnamed : nameable name ≡ false → Err (untold BadName) ≡ entry_answer w s name root slots
     unfolding six
-    entry_unnamed e = λ i. six (not (sym admitted i)) (sym idle i) (not (sym e i)) (entry_of name s.sheets) (vacant_entry s.sheets) (ltb slots (63 * length s.contents))
+    entry_unnamed e = λ i. six (not (sym admitted i)) (sym idle i) (not (sym e i)) (kept_entry_of name s.sheets) (kept_vacant_entry s.sheets) (ltb slots (63 * length s.contents))
 
     module _ (named : nameable name ≡ true) where
-      pub entry_kept : (k : ℕ) → Some k ≡ entry_of name s.sheets → Err (untold NameKept) ≡ entry_answer w s name root slots
+      pub entry_kept : (k : ℕ) → Some k ≡ kept_entry_of name s.sheets → Err (untold NameKept) ≡ entry_answer w s name root slots
       unfolding six
-      entry_kept k e = λ i. six (not (sym admitted i)) (sym idle i) (not (sym named i)) (e i) (vacant_entry s.sheets) (ltb slots (63 * length s.contents))
+      entry_kept k e = λ i. six (not (sym admitted i)) (sym idle i) (not (sym named i)) (e i) (kept_vacant_entry s.sheets) (ltb slots (63 * length s.contents))
 
-      module _ (new : None ≡ entry_of name s.sheets) where
-        pub entry_full : None ≡ vacant_entry s.sheets → Err (untold TooManySheets) ≡ entry_answer w s name root slots
+      module _ (new : None ≡ kept_entry_of name s.sheets) where
+        pub entry_full : None ≡ kept_vacant_entry s.sheets → Err (untold TooManySheets) ≡ entry_answer w s name root slots
         unfolding six
         entry_full e = λ i. six (not (sym admitted i)) (sym idle i) (not (sym named i)) (new i) (e i) (ltb slots (63 * length s.contents))
 
-        pub entry_short : (k : ℕ) (b : Bool) → Some k ≡ vacant_entry s.sheets → b ≡ ltb slots (63 * length s.contents) → cond b (Err (untold TooShort)) (Ok (k, name)) ≡ entry_answer w s name root slots
+        pub entry_short : (k : ℕ) (b : Bool) → Some k ≡ kept_vacant_entry s.sheets → b ≡ ltb slots (63 * length s.contents) → cond b (Err (untold TooShort)) (Ok (k, name)) ≡ entry_answer w s name root slots
         unfolding six
         entry_short k b e f = λ i. six (not (sym admitted i)) (sym idle i) (not (sym named i)) (new i) (e i) (f i)

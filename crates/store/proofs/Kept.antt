@@ -10,7 +10,7 @@ use Rattle.slots.specs.declared.slot.Slot.TheVariants.{Empty}
 use Rattle.trees.specs.Holding.{if_some}
 use Rattle.trees.specs.Trees.{Whole, is_whole}
 use Rattle.trees.proofs.Wholeness.{whole_computed}
-use Rattle.catalogue.specs.Sheets.{Kept, vacant_entry}
+use Rattle.catalogue.specs.Sheets.{Kept, kept_vacant_entry}
 use Rattle.store.specs.States.{State, keeping}
 use Rattle.store.specs.Keeping.{new_sheet, whole_tests, entry_tests, tree_tests, entry_answer, tree_answer, keep_answer, after_keep, keep_table}
 use Rattle.store.proofs.Testing.{passed, passed_value, passed_change, stopped, stopped_change, passed_in}

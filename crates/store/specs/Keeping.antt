@@ -9,7 +9,7 @@ use Rattle.slots.specs.declared.slot.Slot.TheVariants.{Empty}
 use Rattle.trees.specs.Holding.{if_some, record_of}
 use Rattle.trees.specs.Trees.{level_of, is_whole}
 use Rattle.catalogue.specs.Names.{nameable, spelled}
-use Rattle.catalogue.specs.Sheets.{Kept, entry_of, vacant_entry, readings_of}
+use Rattle.catalogue.specs.Sheets.{Kept, kept_entry_of, kept_vacant_entry, readings_of}
 use Rattle.catalogue.specs.declared.name.Name.{Name}
 use Rattle.store.specs.States.{State, keeping}
 use Rattle.store.specs.Refusing.{Test, refusing, unless, shut, busy}
@@ -39,8 +39,8 @@ module _ (w : ℕ) (s : State) (name root : List ℕ) (slots : ℕ) where
   -- the tests up to the table's length; a call that passes them empties its table
   abbrev pub entry_tests : List Test
   entry_tests =
-      shut s ∷ busy s ∷ (not (nameable name), BadName) ∷ (is_some (entry_of name s.sheets), NameKept)
-      ∷ (not (is_some (vacant_entry s.sheets)), TooManySheets) ∷ (nat_lt slots (63 * length s.contents), TooShort) ∷ []
+      shut s ∷ busy s ∷ (not (nameable name), BadName) ∷ (is_some (kept_entry_of name s.sheets), NameKept)
+      ∷ (not (is_some (kept_vacant_entry s.sheets)), TooManySheets) ∷ (nat_lt slots (63 * length s.contents), TooShort) ∷ []
 
   -- the root is a stored node, and the tree under it is whole
   abbrev pub tree_tests : List Test
@@ -48,14 +48,14 @@ module _ (w : ℕ) (s : State) (name root : List ℕ) (slots : ℕ) where
 
   -- the entry that a new sheet gets, the first empty one, and its name
   abbrev pub entry_answer : Result (ℕ × List ℕ) Refusal
-  entry_answer = refusing untold entry_tests (Ok (entry_in (vacant_entry s.sheets), name))
+  entry_answer = refusing untold entry_tests (Ok (entry_in (kept_vacant_entry s.sheets), name))
 
   abbrev pub keep_answer : Result (Unit {0}) Refusal
   keep_answer = refusing untold entry_tests (refusing untold tree_tests (Ok tt))
 
   -- the sheet stands at the first empty entry
   abbrev pub after_keep : State
-  after_keep = unless entry_tests s (unless tree_tests s (keeping s (slice_set s.sheets (entry_in (vacant_entry s.sheets)) (Some (new_sheet name root)))))
+  after_keep = unless entry_tests s (unless tree_tests s (keeping s (slice_set s.sheets (entry_in (kept_vacant_entry s.sheets)) (Some (new_sheet name root)))))
 
 -- the table is emptied, unless a test up to its length refuses
 abbrev pub keep_table : {K : Type 0} → State → List ℕ → List (Slot K) → List (Slot K)
@@ -64,15 +64,15 @@ keep_table s name table = unless (entry_tests 0 s name [] (length table)) table 
 module _ (s : State) (name : List ℕ) where
   abbrev pub drop_tests : List Test
   drop_tests =
-      shut s ∷ busy s ∷ (not (nameable name), BadName) ∷ (not (is_some (entry_of name s.sheets)), NameNotKept)
-      ∷ (not (readings_of (slice_index_or s.sheets (entry_in (entry_of name s.sheets)) None) == 0), SheetInUse) ∷ []
+      shut s ∷ busy s ∷ (not (nameable name), BadName) ∷ (not (is_some (kept_entry_of name s.sheets)), NameNotKept)
+      ∷ (not (readings_of (slice_index_or s.sheets (entry_in (kept_entry_of name s.sheets)) None) == 0), SheetInUse) ∷ []
 
   -- the entry that a drop empties
   abbrev pub drop_entry : Result ℕ Refusal
-  drop_entry = refusing untold drop_tests (Ok (entry_in (entry_of name s.sheets)))
+  drop_entry = refusing untold drop_tests (Ok (entry_in (kept_entry_of name s.sheets)))
 
   abbrev pub drop_answer : Result (Unit {0}) Refusal
   drop_answer = refusing untold drop_tests (Ok tt)
 
   abbrev pub after_drop : State
-  after_drop = unless drop_tests s (keeping s (slice_set s.sheets (entry_in (entry_of name s.sheets)) None))
+  after_drop = unless drop_tests s (keeping s (slice_set s.sheets (entry_in (kept_entry_of name s.sheets)) None))

@@ -14,7 +14,7 @@ use Rattle.walks.specs.Descents.{lead_of, position_after}
 use Rattle.walks.specs.declared.lead.Lead.{Lead}
 use Rattle.walks.specs.declared.lead.Lead.TheVariants.{Nowhere, TheEnd, Strip}
 use Rattle.catalogue.specs.Names.{nameable}
-use Rattle.catalogue.specs.Sheets.{Kept, entry_of, readings_of, readings_out}
+use Rattle.catalogue.specs.Sheets.{Kept, kept_entry_of, readings_of, readings_out}
 use Rattle.store.specs.States.{State, keeping}
 use Rattle.store.specs.Refusing.{Test, refusing, unless, shut}
 use Rattle.store.specs.Keeping.{entry_in}
@@ -35,19 +35,19 @@ out_at ks i = readings_of (slice_index_or ks i None)
 module _ (s : State) (name : List ℕ) where
   abbrev pub open_tests : List Test
   open_tests =
-      shut s ∷ (not (nameable name), BadName) ∷ (not (is_some (entry_of name s.sheets)), NameNotKept)
+      shut s ∷ (not (nameable name), BadName) ∷ (not (is_some (kept_entry_of name s.sheets)), NameNotKept)
       ∷ (nat_le 16 (readings_out s.sheets), TooManyTokens) ∷ []
 
   -- the entry of the sheet that is opened
   abbrev pub open_entry : Result ℕ Refusal
-  open_entry = refusing untold open_tests (Ok (entry_in (entry_of name s.sheets)))
+  open_entry = refusing untold open_tests (Ok (entry_in (kept_entry_of name s.sheets)))
 
   -- a token at the start of the sheet
   abbrev pub open_answer : Result ReadToken Refusal
-  open_answer = refusing untold open_tests (Ok (record { number = s.number; sheet = entry_in (entry_of name s.sheets); position = 0 }))
+  open_answer = refusing untold open_tests (Ok (record { number = s.number; sheet = entry_in (kept_entry_of name s.sheets); position = 0 }))
 
   abbrev pub after_open : State
-  after_open = unless open_tests s (keeping s (recounted (out_at s.sheets (entry_in (entry_of name s.sheets)) + 1) s.sheets (entry_in (entry_of name s.sheets))))
+  after_open = unless open_tests s (keeping s (recounted (out_at s.sheets (entry_in (kept_entry_of name s.sheets)) + 1) s.sheets (entry_in (kept_entry_of name s.sheets))))
 
 -- where a reading of a kept sheet stands: nowhere, where none is out
 abbrev pub lead_in : ℕ → State → ℕ → Option Kept → Lead

@@ -22,7 +22,7 @@ impl<D: Device> Store<D> {
             let counted = Sheet {
                 name: sheet.name,
                 root: sheet.root,
-                readings,
+                readings: usize::from(readings),
             };
             self.catalogue.put(entry, Some(counted));
         }

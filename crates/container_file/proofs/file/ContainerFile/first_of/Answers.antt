@@ -11,7 +11,7 @@ returns-in-Some g c =
 pub loop-container-preserved : goal.loop-container-preserved
 loop-container-preserved g c =
     let cs = contents_of g.F.Key.width c.args.self.now in
-    sym (from_more (g.F.Key.bytes c.args.fingerprint) c.loop-container.container cs (let n = c.containers-container-end.ensures.count in let t = c.loop-container-test.true in omega arith) (sym c.in-default.ensures)) ∙ c.loop-container.invariant
+    sym (from_more (g.F.Key.bytes c.args.fingerprint) c.loop-container.container cs (let n = c.containers-container-end.ensures.count in let t = c.loop-container-test.true in omega arith) (sym c.in_default.ensures)) ∙ c.loop-container.invariant
 
 pub returns : goal.returns
 returns g c =

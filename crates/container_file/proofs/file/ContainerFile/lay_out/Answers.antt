@@ -5,7 +5,7 @@ use Rattle.container_file.specs.Held.{held_at}
 use Rattle.container_file.proofs.Laying.{Laid, laid}
 use Rattle.container_file.proofs.file.ContainerFile.lay_out.Given as given
 use Rattle.container_file.proofs.file.ContainerFile.lay_out.Goals as goal
-use Rattle.container_file.proofs.file.ContainerFile.lay_out.Goals.{After-width, at·returns}
+use Rattle.container_file.proofs.file.ContainerFile.lay_out.Goals.{After-width, at-returns}
 
 counted : (g : given.Over) (c : goal.After-width g) → Count g.F.Key.width (length (vec_items c.args.bytes)) c.args.count
 counted g c =
@@ -18,13 +18,13 @@ zeroed g c =
     let l : c.len-end.result ≡ length bs = c.len-end.ensures ∙ c.args.bytes.ok.0 in
     laid g.F.Key.width c.args.count bs (vec_items c.zero.new.bytes) g.met.F.Key.narrow (counted g c) (c.zero.ensures ∙ ap (λ k. written 0 (replicate (k - 0) 0) bs) l)
 
-pub invariant-of-result : goal.invariant-of-result
-invariant-of-result g c =
+pub invariant_of-result : goal.invariant_of-result
+invariant_of-result g c =
     let x = subst (λ w. Intact w c.args.count (vec_items c.zero.new.bytes)) (sym c.width.ensures) (zeroed g c).intact in
-    (x.few, (x.narrow, (∣ x ∣₁, tt)))
+    record { few = x.few; narrow = x.narrow; intact = ∣ x ∣₁ }
 
 pub returns : goal.returns
 returns g c =
-    let at = (goal.at.returns g c).After-width in
+    let at = (goal.at-returns g c).After-width in
     let z = zeroed g at in
     (counted g at, held_at g.F.Key.width c.width.result c.args.count (vec_items c.zero.new.bytes) c.width.ensures ∙ z.free, z.zeros)

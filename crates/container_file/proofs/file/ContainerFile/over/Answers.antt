@@ -4,7 +4,7 @@ use Rattle.container_file.specs.Held.{held_at}
 use Rattle.container_file.proofs.Opening.{Opened, opened_file, opened_none}
 use Rattle.container_file.proofs.file.ContainerFile.over.Given as given
 use Rattle.container_file.proofs.file.ContainerFile.over.Goals as goal
-use Rattle.container_file.proofs.file.ContainerFile.over.Goals.{in-Ok, in-Err, After-width, at·returns}
+use Rattle.container_file.proofs.file.ContainerFile.over.Goals.{in-Ok, in-Err, After-width, at-returns}
 
 opened : (g : given.Over) (c : goal.After-width g) → Opened g.F.Key.width c.match-check.count (vec_items c.args.bytes)
 opened g c =
@@ -17,14 +17,14 @@ opened g c =
       | in-Err x ↦ subst P (sym x.count-is) (opened_none w bs narrow (subst (NoFile w) c.deref.ensures.value x.in-Err.ensures.answer.0))
     ]
 
-pub invariant-of-result : goal.invariant-of-result
-invariant-of-result g c =
+pub invariant_of-result : goal.invariant_of-result
+invariant_of-result g c =
     let x = subst (λ w. Intact w c.match-check.count (vec_items c.args.bytes)) (sym c.width.ensures) (opened g c).intact in
-    (x.few, (x.narrow, (∣ x ∣₁, tt)))
+    record { few = x.few; narrow = x.narrow; intact = ∣ x ∣₁ }
 
 pub returns : goal.returns
 returns g c =
     let w = g.F.Key.width in
-    let o = opened g (goal.at.returns g c).After-width in
+    let o = opened g (goal.at-returns g c).After-width in
     let same = held_at w c.width.result c.match-check.count (vec_items c.args.bytes) c.width.ensures in
     record { bytes = refl; holds = λ cs h e. same ∙ o.holds cs h e; refused = λ none. same ∙ o.refused none }

@@ -10,7 +10,7 @@ use Rattle.container_file.specs.Held.{intact}
 use Rattle.container_file.proofs.Writes.{Known, intact_four}
 use Rattle.container_file.proofs.file.ContainerFile.write_record.Given as given
 use Rattle.container_file.proofs.file.ContainerFile.write_record.Goals as goal
-use Rattle.container_file.proofs.file.ContainerFile.write_record.Goals.{After-put-4, at·returns}
+use Rattle.container_file.proofs.file.ContainerFile.write_record.Goals.{After-put-4, at-returns}
 
 pub put-requires-2 : goal.put-requires-2
 put-requires-2 g c =
@@ -33,8 +33,8 @@ known : (g : given.Over) (c : goal.After-put-4 g) → let s = c.args.self.now in
 known g c =
     let s = c.args.self.now in
     let rs = get_or (read_as s) c.args.container [] in
-    let fb : Bytes c.args.fingerprint.now = All-from_get_or (λ b. b < 256) c.args.fingerprint.now 0 (λ i h. let f = c.type-inv.fingerprint i in omega arith) in
-    let pb : Bytes c.args.payload.now = All-from_get_or (λ b. b < 256) c.args.payload.now 0 (λ i h. let f = c.type-inv.payload i in omega arith) in
+    let fb : Bytes c.args.fingerprint.now = All-from_get_or (λ b. b < 256) c.args.fingerprint.now 0 (λ i h. let f = c.type_inv.fingerprint i in omega arith) in
+    let pb : Bytes c.args.payload.now = All-from_get_or (λ b. b < 256) c.args.payload.now 0 (λ i h. let f = c.type_inv.payload i in omega arith) in
     let count = c.records_in-count.ensures.value in
     let used = c.bytes_in-used.ensures.value in
     record {
@@ -55,8 +55,8 @@ added : (g : given.Over) (c : goal.After-put-4 g) → let s = c.args.self.now in
     Intact s.width s.count after × (read_file s.width s.count after ≡ set (read_as s) c.args.container (get_or (read_as s) c.args.container [] ++ record { level = c.args.level; fingerprint = c.args.fingerprint.now; payload = c.args.payload.now } ∷ []))
 added g c = intact_four _ _ _ _ _ _ _ _ _ _ _ _ _ (known g c) _ _ _ _ c.put.ensures.after c.put-2.ensures.after c.put-3.ensures.after c.put-4.ensures.after
 
-pub invariant-of-self : goal.invariant-of-self
-invariant-of-self g c = (c.args.self.now.few, (c.args.self.now.narrow, (∣ (added g c).0 ∣₁, tt)))
+pub invariant_of-self : goal.invariant_of-self
+invariant_of-self g c = record { few = c.args.self.now.few; narrow = c.args.self.now.narrow; intact = ∣ (added g c).0 ∣₁ }
 
 pub returns : goal.returns
-returns g c = record { count = refl; width = refl; after = (added g (goal.at.returns g c).After-put-4).1 }
+returns g c = record { count = refl; width = refl; after = (added g (goal.at-returns g c).After-put-4).1 }
