@@ -25,8 +25,8 @@ fn examine_tree<D: Device>(
     root: D::Kind,
     table: &mut [Slot<D::Kind>],
 ) -> Result<(), Refusal>
-    requires { 63 * length (contents device.now) ≤ length table.old }
-    ensures answer { result ≡ tree_answer D.Kind.Key.width (contents device.now) (D.Kind.Key.bytes root) }
+    requires { 63 * length (D.contents device.now) ≤ length table.old }
+    ensures answer { result ≡ tree_answer D.Kind.Key.width (D.contents device.now) (D.Kind.Key.bytes root) }
     ensures emptied { table.new ≡ replicate (length table.old) Empty }
 {
     match examine(device, root, table) {

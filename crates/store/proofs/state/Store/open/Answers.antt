@@ -7,8 +7,8 @@ use Rattle.store.proofs.Opened.{opened_few}
 use Rattle.store.proofs.Testing.{passed, passed_value, passed_change, stopped, stopped_change}
 use Rattle.store.proofs.state.Store.open.Goals as goal
 
-pub overflow-add-readings : goal.overflow-add-readings
-overflow-add-readings g c =
+pub overflow_add-readings : goal.overflow_add-readings
+overflow_add-readings g c =
     let s = model g.D.Device g.D.Kind.Key.bytes c.args.self.now in
     let few = opened_few s c.args.name.now c.in-Ok.entry c.readings-readings.result c.in-Ok.ensures c.readings-readings.ensures in
     omega arith
