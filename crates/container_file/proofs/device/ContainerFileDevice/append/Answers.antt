@@ -1,4 +1,4 @@
-use Rattle.std.proofs.Common.{◌≡◌, ◌+◌, ◌-◌, ◌<◌, ◌≤◌, [], ◌∷◌, ◌++◌, length, get_or, take, set, replicate, sym, ap, ◌∙◌, arith}
+use Rattle.std.proofs.Common.{◌≡◌, ◌+◌, ◌-◌, ◌<◌, ◌≤◌, [], ◌∷◌, ◌++◌, length, get_or, take, set, replicate, sym, ap, ◌∙◌, T, arith, rules}
 use Rattle.std.proofs.lemmas.Bool.{ltb-true, true≢false}
 use Rattle.keys.specs.Reading.{front-written}
 use Rattle.records.specs.Records.{Rec, payload_bytes}
@@ -18,8 +18,10 @@ returns g c =
     let in-range : c.args.container < length cs = ltb-true _ _ (sym c.if-not-has.ensures.answer) in
     let here = held_here w s c.args.container in-range in
     let rs = records_same w s c.args.container here.0 in
-    let count : length (records_of cs c.args.container) < 63 = (let a = ap length rs in omega (arith, (c.if-not-takes.ensures.yes tt).0)) in
-    let bytes : payload_bytes (records_of cs c.args.container) + length r.payload ≤ 7168 = (let a = ap payload_bytes rs in omega (arith, (c.if-not-takes.ensures.yes tt).1)) in
+    let takes : T c.takes.result = search rules in
+    let room = c.takes.ensures.yes takes in
+    let count : length (records_of cs c.args.container) < 63 = (let a = ap length rs in omega (arith, room.0)) in
+    let bytes : payload_bytes (records_of cs c.args.container) + length r.payload ≤ 7168 = (let a = ap payload_bytes rs in omega (arith, room.1)) in
     let h : Takes cs c.args.container r = record { here = in-range; level = c.if-level-gt6.false; some = c.if-payload-lt1.false; few = c.if-payload-gt1280.false; count = count; bytes = bytes } in
     let k : c.width.result - 0 ≡ w = (let e = c.width.ensures in omega arith) in
     let name : take (c.width.result - 0) c.write.new.to ≡ r.fingerprint =
