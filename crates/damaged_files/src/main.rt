@@ -3,7 +3,7 @@
 
 use anyhow::anyhow;
 use container_format::check;
-use keys::{Fingerprint, Fnv, Key};
+use keys::{Fingerprint, Fnv};
 use one_byte::OneByte;
 use std::alloc::Global;
 use std::fs;
