@@ -1,5 +1,5 @@
 -- Each way through the tests of a new sheet's entry.
-use Rattle.std.proofs.Common.{◌≡◌, ℕ, ◌*◌, Bool, true, false, cond, not, ltb, List, length, is_some, Some, None, Ok, Err, Option, Result, sym, refl, ap, ◌∙◌, arith}
+use Rattle.std.proofs.Common.{◌≡◌, ℕ, ◌*◌, Bool, true, false, cond, not, ltb, List, length, is_some, Some, None, Ok, Err, Option, Result, sym, refl, arith}
 use Rattle.std.specs.Option.{option_map}
 use Rattle.records.specs.Refusals.{untold}
 use Rattle.records.specs.declared.refusal.Cause.TheVariants.{Shut, MarkingOpen, BadName, NameKept, TooManySheets, TooShort}

@@ -1,8 +1,8 @@
 -- A strip that stands at a place is given as the device tells it.
-use Rattle.std.proofs.Common.{◌≡◌, ℕ, ◌<◌, ◌≤◌, Bool, true, false, cond, ltb, leb, ◌⊎◌, List, [], ◌++◌, length, get_or, drop, is_ok, Some, Ok, Err, Result, sym, refl, ap, ◌∙◌, ap₂, inl, inr, ⊎_elim, arith}
+use Rattle.std.proofs.Common.{◌≡◌, ℕ, ◌<◌, ◌≤◌, true, false, cond, ltb, leb, ◌⊎◌, List, ◌++◌, length, drop, is_ok, Some, Ok, Err, Result, sym, ap, ◌∙◌, ap₂, inl, inr, ⊎_elim, arith}
 use Rattle.std.proofs.lemmas.Option.{slice_get-get_or}
-use Rattle.std.proofs.lemmas.Bool.{lt-ltb, le-leb, leb-true, leb-false, cases_Bool, ltb-true}
-use Rattle.records.specs.Records.{Rec, Contents, no_record}
+use Rattle.std.proofs.lemmas.Bool.{lt-ltb, leb-true, leb-false, cases_Bool, ltb-true}
+use Rattle.records.specs.Records.{Contents, no_record}
 use Rattle.records.specs.Refusals.{untold}
 use Rattle.records.specs.declared.refusal.Cause.TheVariants.{NoSuchPlace, TooShort}
 use Rattle.records.specs.declared.refusal.Place.{Place}

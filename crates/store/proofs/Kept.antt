@@ -1,5 +1,5 @@
 -- What keeping a sheet comes to, by the tests of its entry and of its tree.
-use Rattle.std.proofs.Common.{◌≡◌, ℕ, ◌*◌, ◌≤◌, Bool, true, false, not, ltb, List, [], length, set, replicate, Some, None, Ok, Err, Option, Result, sym, refl, ap, ◌∙◌, inl, inr, arith}
+use Rattle.std.proofs.Common.{◌≡◌, ℕ, ◌*◌, ◌≤◌, Bool, true, false, not, ltb, List, length, set, replicate, Some, Ok, Err, Option, Result, sym, refl, ap, ◌∙◌, inl, inr}
 use Rattle.std.proofs.lemmas.Bool.{ltb-false}
 use Rattle.records.specs.Records.{Contents}
 use Rattle.records.specs.Refusals.{untold}
@@ -7,10 +7,9 @@ use Rattle.records.specs.declared.refusal.Cause.TheVariants.{TooShort, BrokenTre
 use Rattle.records.specs.declared.refusal.Refusal.{Refusal}
 use Rattle.slots.specs.declared.slot.Slot.{Slot}
 use Rattle.slots.specs.declared.slot.Slot.TheVariants.{Empty}
-use Rattle.trees.specs.Holding.{if_some}
 use Rattle.trees.specs.Trees.{Whole, is_whole}
 use Rattle.trees.proofs.Wholeness.{whole_computed}
-use Rattle.catalogue.specs.Sheets.{Kept, kept_vacant_entry}
+use Rattle.catalogue.specs.Sheets.{Kept}
 use Rattle.store.specs.States.{State, keeping}
 use Rattle.store.specs.Keeping.{new_sheet, whole_tests, entry_tests, tree_tests, entry_answer, tree_answer, keep_answer, after_keep, keep_table}
 use Rattle.store.proofs.Testing.{passed, passed_value, passed_change, stopped, stopped_change, passed_in}

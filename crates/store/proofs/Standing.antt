@@ -1,5 +1,5 @@
 -- Where a reading stands: a strip that it leads to is stored, and is the one that the text has there.
-use Rattle.std.proofs.Common.{◌≡◌, ℕ, suc, ◌<◌, ◌≤◌, Bool, true, false, cond, eqb, ltb, leb, ◌⊎◌, List, [], ◌∷◌, ◌++◌, length, get_or, Some, None, Option, sym, refl, ap, ◌∙◌, inl, inr, ⊎_elim, arith}
+use Rattle.std.proofs.Common.{◌≡◌, ℕ, suc, ◌≤◌, Bool, true, false, cond, eqb, ltb, leb, List, [], ◌∷◌, ◌++◌, get_or, Some, None, Option, sym, refl, ap, ◌∙◌, inl, arith}
 use Rattle.std.specs.List.{slice_get}
 use Rattle.std.proofs.lemmas.Bool.{eqb-true}
 use Rattle.keys.specs.Octets.{same_bytes}
@@ -7,7 +7,7 @@ use Rattle.records.specs.Records.{Rec, Contents, place_among, place_from, first_
 use Rattle.records.specs.declared.refusal.Place.{Place}
 use Rattle.trees.specs.Holding.{if_some, all, first, record_of, standing}
 use Rattle.trees.specs.Reading.{height, strip_at, rank_at, the_end}
-use Rattle.trees.specs.Trees.{Shaped, Whole, payload_of, text}
+use Rattle.trees.specs.Trees.{text}
 use Rattle.trees.proofs.Cursors.{cursor_reads}
 use Rattle.trees.proofs.Places.{place_tells}
 use Rattle.trees.proofs.Steps.{nth_none}
@@ -17,7 +17,7 @@ use Rattle.walks.specs.declared.lead.Lead.TheVariants.{Nowhere, TheEnd, Strip}
 use Rattle.walks.proofs.Strips.{strip_reads}
 use Rattle.catalogue.specs.Sheets.{Kept}
 use Rattle.store.specs.States.{State}
-use Rattle.store.specs.Readings.{Stands, lead_in, lead_at, is_nowhere, strip_bytes, due, DueInText}
+use Rattle.store.specs.Readings.{Stands, lead_in, lead_at, is_nowhere, strip_bytes, DueInText}
 use Rattle.store.specs.declared.tokens.ReadToken.{ReadToken}
 
 -- what is nowhere among the records has no first place

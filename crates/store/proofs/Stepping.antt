@@ -1,5 +1,5 @@
 -- A token that passes its tests gives what its reading's place says.
-use Rattle.std.proofs.Common.{◌≡◌, ℕ, List, length, None, Ok, Option, Result, ap, ◌∙◌}
+use Rattle.std.proofs.Common.{◌≡◌, ℕ, List, None, Ok, Option, Result, ap, ◌∙◌}
 use Rattle.records.specs.Refusals.{untold}
 use Rattle.records.specs.declared.refusal.Refusal.{Refusal}
 use Rattle.trees.specs.Holding.{if_some}

@@ -1,5 +1,5 @@
 -- What an answer says of the tests before it: all were passed, or one of them stopped the call.
-use Rattle.std.proofs.Common.{◌≡◌, ℕ, Bool, true, false, cond, List, [], ◌∷◌, Ok, Err, Result, sym, refl, ap, ◌∙◌, ⊎_elim, arith}
+use Rattle.std.proofs.Common.{◌≡◌, ℕ, true, false, cond, List, [], ◌∷◌, Ok, Err, Result, sym, refl, ap, ◌∙◌, ⊎_elim, arith}
 use Rattle.records.specs.declared.refusal.Cause.{Cause}
 use Rattle.trees.specs.Holding.{In}
 use Rattle.store.specs.Refusing.{Test, refusing, unless}

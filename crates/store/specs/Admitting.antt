@@ -1,5 +1,5 @@
 -- Admitting: a shut store examines what its device holds, and opens.
-use Rattle.std.specs.Prelude.{ℕ, ◌-◌, true, cond, List, length, is_ok, None, Ok, Err, Result}
+use Rattle.std.specs.Prelude.{ℕ, ◌-◌, true, cond, List, length, is_ok, None, Err, Result}
 use Rattle.records.specs.Refusals.{untold}
 use Rattle.records.specs.declared.refusal.Cause.TheVariants.{AlreadyAdmitted}
 use Rattle.records.specs.declared.refusal.Refusal.{Refusal}

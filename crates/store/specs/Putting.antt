@@ -1,6 +1,6 @@
 -- Putting a record: each is stored a single time.
-use Rattle.std.specs.Prelude.{ℕ, Bool, true, false, cond, not, ◌&&◌, List, [], ◌∷◌, Ok, Err, Result}
-use Rattle.records.specs.Records.{Rec, Contents}
+use Rattle.std.specs.Prelude.{Bool, true, false, cond, not, ◌&&◌, List, [], ◌∷◌, Ok, Err, Result}
+use Rattle.records.specs.Records.{Rec}
 use Rattle.records.specs.Refusals.{untold}
 use Rattle.records.specs.declared.refusal.Cause.TheVariants.{Shape, Collision, StoreFull}
 use Rattle.records.specs.declared.refusal.Refusal.{Refusal}

@@ -1,5 +1,5 @@
 -- The tests of a call: the first that applies decides.
-use Rattle.std.specs.Prelude.{Bool, cond, not, List, [], ◌∷◌, Ok, Err, Result}
+use Rattle.std.specs.Prelude.{Bool, cond, not, List, [], ◌∷◌, Err, Result}
 use Rattle.records.specs.declared.refusal.Cause.{Cause}
 use Rattle.records.specs.declared.refusal.Cause.TheVariants.{Shut, MarkingOpen}
 use Rattle.store.specs.States.{State}

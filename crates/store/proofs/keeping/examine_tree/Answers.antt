@@ -1,4 +1,4 @@
-use Rattle.std.proofs.Common.{Ok, Err, sym, ap, ◌∙◌, arith}
+use Rattle.std.proofs.Common.{Err, ap, ◌∙◌, arith}
 use Rattle.store.proofs.Examined.{few_all, found_whole, found_no_root, found_broken}
 use Rattle.store.proofs.keeping.examine_tree.Goals as goal
 

@@ -1,4 +1,4 @@
-use Rattle.std.proofs.Common.{◌*◌, true, false, ltb, [], Ok, Err, sym, ap, ◌∙◌}
+use Rattle.std.proofs.Common.{◌*◌, true, false, ltb, [], Ok, Err, ap, ◌∙◌}
 use Rattle.store.specs.Model.{model}
 use Rattle.store.proofs.Entering.{not_named, named_is, entry_unnamed, entry_kept, entry_full, entry_short}
 use Rattle.store.proofs.state.Store.entry_for.Goals as goal

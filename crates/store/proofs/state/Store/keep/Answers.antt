@@ -1,5 +1,4 @@
-use Rattle.std.proofs.Common.{◌≡◌, ℕ, [], length, sym, refl, ap, ◌∙◌, arith}
-use Rattle.catalogue.specs.Names.{spelled}
+use Rattle.std.proofs.Common.{◌≡◌, ℕ, [], length, arith}
 use Rattle.store.specs.Model.{model}
 use Rattle.store.proofs.Kept.{entered_space, unentered_answer, unentered_after, entered_answer, broken_after, kept_after, unentered_table, entered_table, kept_whole}
 use Rattle.store.proofs.state.Store.keep.Goals as goal

@@ -1,8 +1,8 @@
-use Rattle.std.proofs.Common.{◌≡◌, length, get_or, None, Ok, sym, refl, ap, ◌∙◌, rules}
+use Rattle.std.proofs.Common.{length, get_or, None, Ok, sym, refl, ap, ◌∙◌, rules}
 use Rattle.records.specs.Refusals.{untold}
 use Rattle.walks.specs.declared.lead.Lead.TheVariants.{Strip}
 use Rattle.store.specs.Model.{model}
-use Rattle.store.specs.Readings.{handed_back, token_tests, is_nowhere}
+use Rattle.store.specs.Readings.{token_tests}
 use Rattle.store.proofs.Standing.{strip_stands, lead_sheet, due_in_text}
 use Rattle.store.proofs.Stepping.{stepped, stepped_buffer}
 use Rattle.store.proofs.Testing.{passed_value, stopped_as, stopped_change}

@@ -1,4 +1,4 @@
-use Rattle.std.proofs.Common.{◌≡◌, ◌-◌, ap, ◌∙◌}
+use Rattle.std.proofs.Common.{◌-◌, ap, ◌∙◌}
 use Rattle.records.specs.Refusals.{untold}
 use Rattle.store.specs.Model.{model}
 use Rattle.store.specs.States.{keeping}
