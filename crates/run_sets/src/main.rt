@@ -1,7 +1,6 @@
 // The command girvoupa sets, as the gate runs it.
 #![tactic(auto)]
 
-
 fn main(rt: HostRuntime) -> anyhow::Result<()> {
     commands::run(&rt)
 }
