@@ -1,5 +1,5 @@
 // The calls of a catalogue.
-ghost use Rattle.std.specs.Prelude.{◌≡◌, ◌≤◌, All, length, replicate, None, slice_index_or, slice_set};
+ghost use Rattle.std.specs.Prelude.{◌≡◌, ◌≤◌, ◌↔◌, All, IsTrue, length, replicate, None, slice_index_or, slice_set};
 ghost use Rattle.catalogue.specs.Sheets.{Counted, kept_of, kept_all, kept_entry_of, kept_vacant_entry, readings_of, readings_out};
 
 use crate::entries::Catalogue;
@@ -15,6 +15,16 @@ fn readings_of<F: Key>(entry: &Option<Sheet<F>>) -> u8
     match entry {
         Some(sheet) => sheet.readings as u8,
         None => 0,
+    }
+}
+
+// Whether a byte counts the readings of an entry's sheet.
+fn is_counted<F: Copy>(entry: &Option<Sheet<F>>) -> bool
+    ensures { IsTrue result ↔ Counted entry.now }
+{
+    match entry {
+        Some(sheet) => sheet.readings < 256,
+        None => true,
     }
 }
 
@@ -90,12 +100,12 @@ impl<F: Key> Catalogue<F> {
         readings_of(&self.sheet(entry))
     }
 
-    // Puts a sheet at an entry, or takes away what stands there; past the last entry nothing changes.
+    // Puts a sheet at an entry, or takes away what stands there. Past the last entry nothing changes, nor for a sheet with more readings than a byte counts.
     pub fn put(&mut self, entry: usize, sheet: Option<Sheet<F>>)
-        requires { Counted sheet }
-        ensures { kept_all F.Key.bytes self.new.entries ≡ slice_set (kept_all F.Key.bytes self.old.entries) entry (kept_of F.Key.bytes sheet) }
+        ensures counted { Counted sheet → kept_all F.Key.bytes self.new.entries ≡ slice_set (kept_all F.Key.bytes self.old.entries) entry (kept_of F.Key.bytes sheet) }
+        ensures uncounted { ¬ Counted sheet → self.new.entries ≡ self.old.entries }
     {
-        if entry < 64 {
+        if is_counted(&sheet) && entry < 64 {
             self.entries[entry] = sheet;
         }
     }

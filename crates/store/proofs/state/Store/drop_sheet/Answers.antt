@@ -1,4 +1,4 @@
-use Rattle.std.proofs.Common.{set, None, ap, ◌∙◌}
+use Rattle.std.proofs.Common.{lit<, set, None, ap, ◌∙◌}
 use Rattle.records.specs.Refusals.{untold}
 use Rattle.store.specs.Model.{model}
 use Rattle.store.specs.States.{keeping}
@@ -14,7 +14,7 @@ returns-in-Ok g c =
     record {
       answer = passed untold ts _ c.in-Ok.entry _ h;
       after =
-          ap (keeping s) (c.put.ensures ∙ ap (λ i. set s.sheets i None) (passed_value untold ts _ c.in-Ok.entry h))
+          ap (keeping s) (c.put.ensures.counted (lit< tt) ∙ ap (λ i. set s.sheets i None) (passed_value untold ts _ c.in-Ok.entry h))
           ∙ passed_change untold ts _ c.in-Ok.entry s _ h;
     }
 

@@ -1,4 +1,4 @@
-use Rattle.std.proofs.Common.{◌≡◌, ℕ, [], length, arith}
+use Rattle.std.proofs.Common.{lit<, ◌≡◌, ℕ, [], length, arith}
 use Rattle.store.specs.Model.{model}
 use Rattle.store.proofs.Kept.{entered_space, unentered_answer, unentered_after, entered_answer, broken_after, kept_after, unentered_table, entered_table, kept_whole}
 use Rattle.store.proofs.state.Store.keep.Goals as goal
@@ -34,7 +34,7 @@ returns-in-Ok-examine_tree g c =
     let t = c.in-Ok-examine_tree.ensures in
     record {
       answer = entered_answer w s name root (length table) _ h _ t.answer;
-      after = kept_after w s name root (length table) _ h _ t.answer c.put.ensures;
+      after = kept_after w s name root (length table) _ h _ t.answer (c.put.ensures.counted (lit< tt));
       table = entered_table w s name root table _ h _ t.emptied;
       whole = λ z. kept_whole w s.contents root t.answer;
     }
