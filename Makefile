@@ -1,11 +1,8 @@
-# run: lists the sample container file. test: the gate (proofs, must-fail edits, programs, tests).
+# run: proves and builds the program, and lists the sample container file. test: the gate (proofs, must-fail edits, programs, tests).
 .PHONY: run test
 
-run: target/bin/girvoupa
-	target/bin/girvoupa check examples/sample.containers
-
-target/bin/girvoupa:
-	rt check girvoupa
+run:
+	cd crates/girvoupa && rt run -- check $(CURDIR)/examples/sample.containers
 
 test:
 	.ci/run
