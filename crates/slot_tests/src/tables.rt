@@ -1,7 +1,6 @@
 // Tables of 0, 1, 2, 3 and 7 slots.
 use keys::{Fnv, Key, Pair};
 use slots::{Probe, Slot, empty, insert, is_marked, lookup, mark_key, unmark};
-use std::process::Abort;
 
 const fn pair(level: u8, container: u8) -> Pair {
     Pair { level, container }
@@ -135,22 +134,23 @@ fn plain_walk(slots: &[Slot<Pair>; 3], home: usize, key: Pair) -> bool {
     false
 }
 
-// Looks the key up in all 27 tables of three such slots, and writes the answers as binary digits, the last table's first.
-fn in_all_tables(rt: &impl Abort, key: Pair, home: usize) -> u64 {
+// Looks the key up in all 27 tables of three such slots, and writes the answers as binary digits, the last table's first; none where a plain walk finds otherwise.
+fn in_all_tables(key: Pair, home: usize) -> Option<u64> {
     let mut digits = 0u64;
     for t in 0..27u32 {
         let slots = [damaged(t), damaged(t / 3), damaged(t / 9)];
         let met = lookup(&slots, 3, key);
-        assert!(rt; met == plain_walk(&slots, home, key));
-        assert!(rt; !lookup(&slots, 0, key));
+        if met != plain_walk(&slots, home, key) || lookup(&slots, 0, key) {
+            return None;
+        }
         digits |= u64::from(met) << t;
     }
-    digits
+    Some(digits)
 }
 
 #[test]
 fn damaged_tables(rt: HostRuntime) {
-    assert_eq!(rt; in_all_tables(&rt, pair(0, 3), 0), 0x2cb64b2);
-    assert_eq!(rt; in_all_tables(&rt, pair(0, 1), 1), 0x7e3c1c0);
-    assert_eq!(rt; in_all_tables(&rt, pair(9, 9), 2), 0);
+    assert_eq!(rt; in_all_tables(pair(0, 3), 0), Some(0x2cb64b2));
+    assert_eq!(rt; in_all_tables(pair(0, 1), 1), Some(0x7e3c1c0));
+    assert_eq!(rt; in_all_tables(pair(9, 9), 2), Some(0));
 }
