@@ -18,7 +18,7 @@ pub(crate) enum Examination {
 
 // What is wrong with a record by itself.
 fn fault<F: Fingerprint>(level: u8, fingerprint: F, payload: &[u8]) -> Option<Cause>
-    ensures { result ≡ fault_of F.Key.width (λ l p. F.Key.bytes (F.Fingerprint.naming l p)) (record { level = level; fingerprint = F.Key.bytes fingerprint; payload = payload.now }) }
+    ensures { result ≡ fault_of F.Key.WIDE (λ l p. F.Key.bytes (F.Fingerprint.naming l p)) (record { level = level; fingerprint = F.Key.bytes fingerprint; payload = payload.now }) }
 {
     if !is_shaped::<F>(level, payload) {
         Some(Cause::Shape)
@@ -32,7 +32,7 @@ fn fault<F: Fingerprint>(level: u8, fingerprint: F, payload: &[u8]) -> Option<Ca
 // What is wrong with the record at a place by itself.
 fn fault_at<D: Device>(device: &D, place: Place) -> Result<Option<Cause>, Refusal>
     requires { place.index < length (records_of (D.Device.contents device.now) place.container) }
-    ensures { result ≡ Ok (fault_of D.Kind.Key.width (λ l p. D.Kind.Key.bytes (D.Kind.Fingerprint.naming l p)) (record_at (D.Device.contents device.now) place)) }
+    ensures { result ≡ Ok (fault_of D.Kind.Key.WIDE (λ l p. D.Kind.Key.bytes (D.Kind.Fingerprint.naming l p)) (record_at (D.Device.contents device.now) place)) }
 {
     let level = device.level(place)?;
     let fingerprint = device.fingerprint(place)?;
@@ -77,7 +77,7 @@ impl Examination {
         place: Place,
     ) -> Result<Option<Cause>, Refusal>
         requires { place.index < length (records_of (D.Device.contents device.now) place.container) }
-        ensures { result ≡ Ok (cause_of D.Kind.Key.width (λ l p. D.Kind.Key.bytes (D.Kind.Fingerprint.naming l p)) (D.Device.contents device.now) self place (record_at (D.Device.contents device.now) place)) }
+        ensures { result ≡ Ok (cause_of D.Kind.Key.WIDE (λ l p. D.Kind.Key.bytes (D.Kind.Fingerprint.naming l p)) (D.Device.contents device.now) self place (record_at (D.Device.contents device.now) place)) }
     {
         match self {
             Examination::Faults => fault_at(device, place),

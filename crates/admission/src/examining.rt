@@ -15,7 +15,7 @@ fn examine_container<D: Device>(
     container: usize,
 ) -> Result<(), Refusal>
     requires { container < length (D.Device.contents device.now) }
-    ensures { result ≡ answer_by (refused_among (cause_of D.Kind.Key.width (λ l p. D.Kind.Key.bytes (D.Kind.Fingerprint.naming l p)) (D.Device.contents device.now) examination) container 0 (records_of (D.Device.contents device.now) container)) }
+    ensures { result ≡ answer_by (refused_among (cause_of D.Kind.Key.WIDE (λ l p. D.Kind.Key.bytes (D.Kind.Fingerprint.naming l p)) (D.Device.contents device.now) examination) container 0 (records_of (D.Device.contents device.now) container)) }
 {
     let count = device.records(container)?;
     for index in 0..count {
@@ -29,7 +29,7 @@ fn examine_container<D: Device>(
 
 // Refuses the first record of all that the examination finds wrong.
 fn examine_records<D: Device>(device: &D, examination: Examination) -> Result<(), Refusal>
-    ensures { result ≡ answer_by (refused_from (cause_of D.Kind.Key.width (λ l p. D.Kind.Key.bytes (D.Kind.Fingerprint.naming l p)) (D.Device.contents device.now) examination) 0 (D.Device.contents device.now)) }
+    ensures { result ≡ answer_by (refused_from (cause_of D.Kind.Key.WIDE (λ l p. D.Kind.Key.bytes (D.Kind.Fingerprint.naming l p)) (D.Device.contents device.now) examination) 0 (D.Device.contents device.now)) }
 {
     let count = device.count();
     for container in 0..count {
@@ -63,17 +63,17 @@ fn has_free<D: Device>(device: &D) -> bool
 
 // Refuses a device that a store may not admit: by its number of containers, then by the first record that is wrong by itself, then by the first whose fingerprint an earlier one has, then for want of a free container.
 pub fn examine_device<D: Device>(device: &D) -> Result<(), Refusal>
-    ensures answer { result ≡ admission_answer D.Kind.Key.width (λ l p. D.Kind.Key.bytes (D.Kind.Fingerprint.naming l p)) (D.Device.contents device.now) }
-    ensures sound { result ≡ Ok tt → Admitted D.Kind.Key.width (λ l p. D.Kind.Key.bytes (D.Kind.Fingerprint.naming l p)) (D.Device.contents device.now) }
+    ensures answer { result ≡ admission_answer D.Kind.Key.WIDE (λ l p. D.Kind.Key.bytes (D.Kind.Fingerprint.naming l p)) (D.Device.contents device.now) }
+    ensures sound { result ≡ Ok tt → Admitted D.Kind.Key.WIDE (λ l p. D.Kind.Key.bytes (D.Kind.Fingerprint.naming l p)) (D.Device.contents device.now) }
 {
     let count = device.count();
     if count < 2 || count > 32 {
-        return Err(Refusal::of(Cause::Size));
+        return Err(Refusal::from(Cause::Size));
     }
     examine_records(device, Examination::Faults)?;
     examine_records(device, Examination::Repeats)?;
     if !has_free(device) {
-        return Err(Refusal::of(Cause::NoneFree));
+        return Err(Refusal::from(Cause::NoneFree));
     }
     Ok(())
 }

@@ -34,10 +34,10 @@ impl From<Refusal> for Fault {
 
 // A tape of free containers.
 fn fresh_tape<F: Fingerprint>(heap: Global, count: usize) -> Result<Tape<F>, Fault>
-    ensures { IfOk result (λ t. held_by F.Key.width t ≡ replicate count []) }
+    ensures { IfOk result (λ t. held_by F.Key.WIDE t ≡ replicate count []) }
 {
     let Some(size) = tape_size::<F>(count) else {
-        return Err(Fault::Refused(Refusal::of(Cause::Size)));
+        return Err(Fault::Refused(Refusal::from(Cause::Size)));
     };
     match Tape::lay_out(vec![in heap; 0u8; size]?, count) {
         Ok(tape) => Ok(tape),
@@ -47,7 +47,7 @@ fn fresh_tape<F: Fingerprint>(heap: Global, count: usize) -> Result<Tape<F>, Fau
 
 // A file of free containers.
 fn fresh_file<F: Fingerprint>(heap: Global, count: usize) -> Result<ContainerFile<F>, Fault>
-    ensures { IfOk result (λ s. contents_of F.Key.width s ≡ replicate count []) }
+    ensures { IfOk result (λ s. contents_of F.Key.WIDE s ≡ replicate count []) }
 {
     let size = container_size::<F>().saturating_mul(count);
     match ContainerFile::lay_out(vec![in heap; 0u8; size]?, count) {
@@ -61,7 +61,7 @@ pub fn copy_file<F: Fingerprint>(
     heap: Global,
     file: &ContainerFile<F>,
 ) -> Result<ContainerFile<F>, Fault>
-    ensures { IfOk result (λ s. contents_of F.Key.width s ≡ contents_of F.Key.width file.now) }
+    ensures { IfOk result (λ s. contents_of F.Key.WIDE s ≡ contents_of F.Key.WIDE file.now) }
 {
     let count = file.count();
     let mut between = fresh_tape::<F>(heap, count)?;

@@ -15,7 +15,7 @@ impl Hex {
         let _ = key.write(&mut bytes);
         Hex {
             bytes,
-            width: K::width(),
+            width: K::WIDE,
         }
     }
 }

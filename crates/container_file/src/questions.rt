@@ -19,8 +19,8 @@ impl<F: Fingerprint> ContainerFile<F> {
     // Over some bytes: the containers of the file that they are, or no containers where they are none.
     pub fn over(bytes: Vec<u8>) -> Self
         ensures bytes { result.bytes ≡ bytes }
-        ensures holds { (cs : Contents) → Limits F.Key.width cs → bytes.items ≡ file F.Key.width cs → contents_of F.Key.width result ≡ cs }
-        ensures refused { NoFile F.Key.width bytes.items → contents_of F.Key.width result ≡ [] }
+        ensures holds { (cs : Contents) → Limits F.Key.WIDE cs → bytes.items ≡ file F.Key.WIDE cs → contents_of F.Key.WIDE result ≡ cs }
+        ensures refused { NoFile F.Key.WIDE bytes.items → contents_of F.Key.WIDE result ≡ [] }
     {
         let count = match check::<F>(&bytes) {
             Ok(count) => count,
@@ -29,17 +29,17 @@ impl<F: Fingerprint> ContainerFile<F> {
         ContainerFile {
             bytes,
             count,
-            width: F::width(),
+            width: F::WIDE,
             kind: PhantomData,
         }
     }
 
     // Lays out `count` free containers over given bytes, which are zero then; else the bytes come back as they were.
     pub fn lay_out(bytes: Vec<u8>, count: usize) -> Result<Self, (Refusal, Vec<u8>)>
-        ensures { LaidOut F.Key.width count bytes result }
+        ensures { LaidOut F.Key.WIDE count bytes result }
     {
         if !has_length::<F>(bytes.len(), count) {
-            return Err((Refusal::of(Cause::Size), bytes));
+            return Err((Refusal::from(Cause::Size), bytes));
         }
         let mut bytes = bytes;
         let end = bytes.len();
@@ -47,7 +47,7 @@ impl<F: Fingerprint> ContainerFile<F> {
         Ok(ContainerFile {
             bytes,
             count,
-            width: F::width(),
+            width: F::WIDE,
             kind: PhantomData,
         })
     }
@@ -55,17 +55,17 @@ impl<F: Fingerprint> ContainerFile<F> {
     // The bytes: the one file of what it holds, where it holds containers.
     pub fn bytes(&self) -> &[u8]
         ensures value { result.now ≡ self.now.bytes.items }
-        ensures whole { 1 ≤ length (contents_of F.Key.width self.now) → Limits F.Key.width (contents_of F.Key.width self.now) × (result.now ≡ file F.Key.width (contents_of F.Key.width self.now)) }
+        ensures whole { 1 ≤ length (contents_of F.Key.WIDE self.now) → Limits F.Key.WIDE (contents_of F.Key.WIDE self.now) × (result.now ≡ file F.Key.WIDE (contents_of F.Key.WIDE self.now)) }
     {
         &self.bytes
     }
 
     // How many containers there are.
     pub(crate) fn containers(&self) -> usize
-        ensures count { result ≡ length (contents_of F.Key.width self.now) }
-        ensures own { 0 < result → (self.now.width ≡ F.Key.width) × (result ≡ self.now.count) }
+        ensures count { result ≡ length (contents_of F.Key.WIDE self.now) }
+        ensures own { 0 < result → (self.now.width ≡ F.Key.WIDE) × (result ≡ self.now.count) }
     {
-        if self.width == F::width() {
+        if self.width == F::WIDE {
             self.count
         } else {
             0
@@ -74,8 +74,8 @@ impl<F: Fingerprint> ContainerFile<F> {
 
     // Whether there is such a container.
     pub(crate) fn has(&self, container: usize) -> bool
-        ensures answer { result ≡ nat_lt container (length (contents_of F.Key.width self.now)) }
-        ensures own { T result → (self.now.width ≡ F.Key.width) × (container < self.now.count) }
+        ensures answer { result ≡ nat_lt container (length (contents_of F.Key.WIDE self.now)) }
+        ensures own { T result → (self.now.width ≡ F.Key.WIDE) × (container < self.now.count) }
     {
         container < self.containers()
     }
@@ -120,7 +120,7 @@ impl<F: Fingerprint> ContainerFile<F> {
 
     // Where the entry of a record begins, if there is such a record.
     pub(crate) fn entry(&self, place: Place) -> Option<usize>
-        ensures { Entered F.Key.width self.now place result }
+        ensures { Entered F.Key.WIDE self.now place result }
     {
         if place.container >= self.containers() {
             return None;
@@ -133,7 +133,7 @@ impl<F: Fingerprint> ContainerFile<F> {
 
     // Where a record's payload begins, at the offset that its entry names, and how long it is.
     pub(crate) fn span(&self, place: Place) -> Option<(usize, usize)>
-        ensures { Spanned F.Key.width self.now place result }
+        ensures { Spanned F.Key.WIDE self.now place result }
     {
         let at = self.entry(place)?;
         let len = u16_at(&self.bytes, at + (self.width + 2));
@@ -146,17 +146,17 @@ impl<F: Fingerprint> ContainerFile<F> {
 
     // A record's payload: the part of the file that begins at the offset its entry names.
     pub fn part(&self, place: Place) -> Result<&[u8], Refusal>
-        ensures { answered (λ x. x.now) result ≡ of_record (λ x. x.payload) (contents_of F.Key.width self.now) place }
+        ensures { answered (λ x. x.now) result ≡ of_record (λ x. x.payload) (contents_of F.Key.WIDE self.now) place }
     {
         match self.span(place) {
             Some((from, len)) => Ok(&self.bytes[from..from + len]),
-            None => Err(Refusal::of(Cause::NoSuchPlace)),
+            None => Err(Refusal::from(Cause::NoSuchPlace)),
         }
     }
 
     // A record's fingerprint, if there is such a record.
     pub(crate) fn fingerprint_at(&self, place: Place) -> Option<F>
-        ensures { result ≡ result_ok (of_record (λ x. F.Key.key x.fingerprint) (contents_of F.Key.width self.now) place) }
+        ensures { result ≡ result_ok (of_record (λ x. F.Key.key x.fingerprint) (contents_of F.Key.WIDE self.now) place) }
     {
         let at = self.entry(place)?;
         F::read(&self.bytes[at..])
@@ -164,7 +164,7 @@ impl<F: Fingerprint> ContainerFile<F> {
 
     // The first place of a fingerprint in a container, if any.
     fn first_in(&self, container: usize, fingerprint: F) -> Option<Place>
-        ensures { result ≡ place_among (F.Key.bytes fingerprint) container 0 (records_of (contents_of F.Key.width self.now) container) None }
+        ensures { result ≡ place_among (F.Key.bytes fingerprint) container 0 (records_of (contents_of F.Key.WIDE self.now) container) None }
     {
         for index in 0..63usize {
             let place = Place { container, index };
@@ -182,7 +182,7 @@ impl<F: Fingerprint> ContainerFile<F> {
 
     // The first place of a fingerprint in the file, if any.
     pub(crate) fn first_of(&self, fingerprint: F) -> Option<Place>
-        ensures { result ≡ first_place (contents_of F.Key.width self.now) (F.Key.bytes fingerprint) }
+        ensures { result ≡ first_place (contents_of F.Key.WIDE self.now) (F.Key.bytes fingerprint) }
     {
         for container in 0..self.containers() {
             if let Some(place) = self.first_in(container, fingerprint) {

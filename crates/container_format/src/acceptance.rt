@@ -119,17 +119,17 @@ fn containers_in_order(bytes: &[u8], width: usize, size: usize, count: usize) ->
 
 // The number of containers of a container file, or why the bytes are none.
 pub fn check<F: Fingerprint>(bytes: &[u8]) -> Result<usize, Refusal>
-    ensures answer { Checked F.Key.width bytes.now result }
-    ensures one { OneFile F.Key.width }
+    ensures answer { Checked F.Key.WIDE bytes.now result }
+    ensures one { OneFile F.Key.WIDE }
 {
     let size = container_size::<F>();
     let count = bytes.len() / size;
     if !has_length::<F>(bytes.len(), count) {
-        return Err(Refusal::of(Cause::Size));
+        return Err(Refusal::from(Cause::Size));
     }
-    if containers_in_order(bytes, F::width(), size, count) {
+    if containers_in_order(bytes, F::WIDE, size, count) {
         Ok(count)
     } else {
-        Err(Refusal::of(Cause::Layout))
+        Err(Refusal::from(Cause::Layout))
     }
 }

@@ -7,15 +7,15 @@ use keys::Fingerprint;
 
 // How many bytes a container takes whose fingerprints are of this kind.
 pub fn container_size<F: Fingerprint>() -> usize
-    ensures { result ≡ container_size F.Key.width }
+    ensures { result ≡ container_size F.Key.WIDE }
 {
-    16 + 63 * (F::width() + 8) + 7168
+    16 + 63 * (F::WIDE + 8) + 7168
 }
 
 // Whether there may be `count` containers, and they have this length together.
 pub fn has_length<F: Fingerprint>(length: usize, count: usize) -> bool
-    ensures yes { T result → Count F.Key.width length count }
-    ensures no { Count F.Key.width length count → T result }
+    ensures yes { T result → Count F.Key.WIDE length count }
+    ensures no { Count F.Key.WIDE length count → T result }
 {
     count >= 2 && count <= 32 && length == count * container_size::<F>()
 }

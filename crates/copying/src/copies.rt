@@ -58,7 +58,7 @@ fn copy_containers<X: Device, Y: Device<Kind = X::Kind>>(
 // Appends every record of one device to the same container of another, in order, up to the first that is refused. None is where as many containers are free and every record may be stored, and then the two hold the same.
 pub fn copy_all<X: Device, Y: Device<Kind = X::Kind>>(from: &X, to: &mut Y) -> Result<(), Refusal>
     ensures moved { MovedAll (X.Device.contents from.now) (Y.Device.contents to.old) result (Y.Device.contents to.new) }
-    ensures same { AllByRecursion (Stored X.Kind.Key.width) (X.Device.contents from.now) → Y.Device.contents to.old ≡ replicate (length (X.Device.contents from.now)) [] → (result ≡ Ok tt) × (Y.Device.contents to.new ≡ X.Device.contents from.now) }
+    ensures same { AllByRecursion (Stored X.Kind.Key.WIDE) (X.Device.contents from.now) → Y.Device.contents to.old ≡ replicate (length (X.Device.contents from.now)) [] → (result ≡ Ok tt) × (Y.Device.contents to.new ≡ X.Device.contents from.now) }
 {
     copy_containers(from, to)
 }

@@ -1,5 +1,5 @@
 -- What a device's questions answer, by what its containers hold.
-use Rattle.std.specs.Prelude.{ℕ, cond, List, [], ◌++◌, length, drop, is_ok, Ok, Err, Result, nat_le, nat_lt, slice_index_or}
+use Rattle.std.specs.Prelude.{ℕ, Bool, cond, ◌&&◌, List, [], ◌++◌, length, drop, is_ok, Ok, Err, Result, ◌==◌, nat_le, nat_lt, slice_index_or}
 use Rattle.std.specs.List.{AllByRecursion}
 use Rattle.records.specs.Limits.{Typed, Fits}
 use Rattle.records.specs.Records.{Rec, Contents, no_record}
@@ -16,6 +16,14 @@ pub record Held (w : ℕ) (cs : Contents) : Type 0 where
 -- the records of a container; none where there is no such container
 abbrev pub records_of : Contents → ℕ → List Rec
 records_of cs c = slice_index_or cs c []
+
+-- no records
+abbrev pub unused : List Rec → Bool
+unused rs = length rs == 0
+
+-- a container is free if it is there and has no records
+abbrev pub is_free : Contents → ℕ → Bool
+is_free cs c = nat_lt c (length cs) && unused (records_of cs c)
 
 -- the record at a place
 abbrev pub record_at : Contents → Place → Rec

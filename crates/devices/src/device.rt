@@ -1,11 +1,11 @@
 // The interface of a device.
 ghost use Rattle.std.specs.Prelude.{◌≡◌, length};
-ghost use Rattle.records.specs.Records.{Contents, first_place, payload_bytes};
+ghost use Rattle.records.specs.Records.{Contents, first_place, payload_bytes, rec_of};
 ghost use Rattle.devices.specs.Questions.{Held, of_container, of_record, payload_answer, payload_filled};
 ghost use Rattle.devices.specs.Changes.{append_answer, append_after, erase_answer, erased};
 
 use keys::Fingerprint;
-use records::{Place, Refusal};
+use records::{Place, Record, Refusal};
 
 // Containers of records, whose fingerprints are of one kind.
 pub trait Device {
@@ -46,15 +46,9 @@ pub trait Device {
         ensures { result ≡ first_place (contents self.now) (Self.Kind.Key.bytes fingerprint) };
 
     // One record more behind those of a container.
-    fn append(
-        &mut self,
-        container: usize,
-        level: u8,
-        fingerprint: Self::Kind,
-        payload: &[u8],
-    ) -> Result<(), Refusal>
-        ensures answer { result ≡ append_answer (contents self.old) container (record { level = level; fingerprint = Self.Kind.Key.bytes fingerprint; payload = payload.now }) }
-        ensures after { contents self.new ≡ append_after (contents self.old) container (record { level = level; fingerprint = Self.Kind.Key.bytes fingerprint; payload = payload.now }) };
+    fn append(&mut self, container: usize, added: Record<'_, Self::Kind>) -> Result<(), Refusal>
+        ensures answer { result ≡ append_answer (contents self.old) container (rec_of Self.Kind.Key.bytes added.entry) }
+        ensures after { contents self.new ≡ append_after (contents self.old) container (rec_of Self.Kind.Key.bytes added.entry) };
 
     // Empties a container.
     fn erase(&mut self, container: usize) -> Result<(), Refusal>
@@ -62,5 +56,5 @@ pub trait Device {
         ensures after { contents self.new ≡ erased (contents self.old) container };
 
     // No container is ever over its limits.
-    ghost held: { (d : Self) → Held Self.Kind.Key.width (contents d) };
+    ghost held: { (d : Self) → Held Self.Kind.Key.WIDE (contents d) };
 }

@@ -2,5 +2,9 @@
 #![tactic(auto)]
 
 pub mod device;
+pub mod free;
+pub mod limits;
 
 pub use device::Device;
+pub use free::is_free;
+pub use limits::{is_storable, joins};

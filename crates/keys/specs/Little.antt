@@ -1,9 +1,10 @@
 -- Numbers in bytes and back, and the test that two lists have the same bytes.
-use Rattle.std.specs.Prelude.{◌≡◌, ℕ, zero, suc, ◌+◌, ◌*◌, ◌/◌, ◌%◌, ◌^◌, ◌<◌, ◌≤◌, true, List, [], ◌∷◌, length, take, ◌==◌, refl}
-use Rattle.std.proofs.Common.{sym, ap, ◌∙◌, pow-suc, arith}
+use Rattle.std.specs.Prelude.{◌≡◌, ℕ, zero, suc, ◌+◌, ◌*◌, ◌/◌, ◌%◌, ◌^◌, ◌<◌, ◌≤◌, true, List, [], ◌∷◌, length, take, ◌==◌, eqb, refl}
+use Rattle.std.proofs.Common.{sym, ap, ◌∙◌, ⊎_elim, pow-suc, arith}
 use Rattle.std.proofs.ByRecursion.{All-take}
 use Rattle.std.proofs.lemmas.List.{length-take-le}
-use Rattle.std.proofs.lemmas.Bool.{and_parts, eqb-true, eq-eqb}
+use Rattle.std.proofs.lemmas.Bool.{and_parts, cases_Bool, eqb-true, eq-eqb}
+use Rattle.std.proofs.lemmas.Bool.Decides.{eqb_tells}
 use Rattle.keys.specs.Octets.{same_bytes, Bytes, little, number}
 
 pub length-little : (w n : ℕ) → length (little w n) ≡ w
@@ -55,6 +56,16 @@ same_equal (x ∷ xs) (y ∷ ys) e =
     let head : x ≡ y = eqb-true x y both.0 in
     let rest : xs ≡ ys = same_equal xs ys both.1 in
     cc
+
+-- two numbers below 256 ^ w are equal exactly when their w bytes are the same
+pub same-little : (w m n : ℕ) → m < 256 ^ w → n < 256 ^ w → eqb m n ≡ same_bytes (little w m) (little w n)
+same-little w m n h k =
+    let back : same_bytes (little w m) (little w n) ≡ true → m ≡ n =
+    λ e. sym (number-little w m h) ∙ ap number (same_equal (little w m) (little w n) e) ∙ number-little w n k in
+    ⊎_elim
+    (λ p. p.0 ∙ sym (same_self (little w m)) ∙ ap (λ x. same_bytes (little w m) (little w x)) p.1)
+    (λ p. ⊎_elim (λ e. absurd (p.1 (back e))) (λ e. p.0 ∙ sym e) (cases_Bool (same_bytes (little w m) (little w n))))
+    (eqb_tells m n)
 
 -- from the law that the bytes give the key back: equal bytes, equal keys
 pub equal_keys : {K : Type 0} (bytes : K → List ℕ) (key : List ℕ → K) → ((k : K) → key (bytes k) ≡ k) → (x y : K) → bytes x ≡ bytes y → x ≡ y

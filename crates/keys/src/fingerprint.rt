@@ -13,5 +13,5 @@ pub trait Fingerprint: Key {
         ensures { result ≡ naming level payload.now };
 
     // A fingerprint has a byte at least.
-    ghost some: { 1 ≤ Self.Key.width };
+    ghost some: { 1 ≤ Self.Key.WIDE };
 }

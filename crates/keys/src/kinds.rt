@@ -5,7 +5,7 @@ ghost use Rattle.keys.specs.Octets.{same_bytes, little};
 ghost use Rattle.keys.specs.Hashing.{fnv1a};
 ghost use Rattle.keys.specs.Encodings.{home_number, pair_bytes, pair_of, fnv_bytes, fnv_of, fnv_numbered, fnv_naming};
 ghost use Rattle.keys.specs.Reading.{pair_path, fnv_path};
-ghost use Rattle.keys.specs.Little.{number-little, little-number, number_below};
+ghost use Rattle.keys.specs.Little.{number-little, little-number, number_below, same-little};
 ghost use Rattle.keys.specs.Octets;
 
 use crate::fingerprint::Fingerprint;
@@ -18,10 +18,9 @@ use crate::pair::Pair;
 fn hash_key<K: Key>(first: u8, key: K) -> u64
     ensures { result ≡ fnv1a (first ∷ K.Key.bytes key) }
 {
-    let width = K::width();
     let mut buffer = [0u8; 20];
     let _ = key.write(&mut buffer);
-    hash_behind(first, &buffer[0..width])
+    hash_behind(first, &buffer[..K::WIDE])
 }
 
 // The key's home number under a seed: where a table begins to look for it, and which bits of a filter it has.
@@ -35,13 +34,13 @@ pub fn home<K: Key>(key: K, seed: u8) -> u64
 pub fn is_named<F: Fingerprint>(fingerprint: F, level: u8, payload: &[u8]) -> bool
     ensures { result ≡ same_bytes (F.Key.bytes fingerprint) (F.Key.bytes (F.Fingerprint.naming level payload.now)) }
 {
-    fingerprint.same(F::of(level, payload))
+    fingerprint == F::of(level, payload)
 }
 
 impl Key for Pair {
     const WIDE: usize = 2;
 
-    ghost width = { 2 };
+    ghost WIDE = { 2 };
 
     ghost bytes = { pair_bytes };
 
@@ -62,9 +61,7 @@ impl Key for Pair {
       | x ∷ y ∷ z ∷ zs ↦ λ e h. absurd (omega arith)
     ] };
 
-    fn width() -> usize {
-        Self::WIDE
-    }
+    ghost same = { first_of (Prim.search rules, Prim.grind (arith, Self.row.coded.inj)) };
 
     fn read(from: &[u8]) -> Option<Pair> {
         let [level, container, ..] = from else {
@@ -84,23 +81,21 @@ impl Key for Pair {
         to[1] = self.container;
         true
     }
-
-    fn same(self, other: Pair) -> bool {
-        self.level == other.level && self.container == other.container
-    }
 }
 
 // The fingerprint of a number.
-fn numbered(number: u64) -> Fnv
-    ensures { result ≡ fnv_numbered number }
-{
-    Fnv { number }
+impl From<u64> for Fnv {
+    ghost from_gives = { λ number result. result ≡ fnv_numbered number };
+
+    fn from(number: u64) -> Fnv {
+        Fnv { number }
+    }
 }
 
 impl Key for Fnv {
     const WIDE: usize = 8;
 
-    ghost width = { 8 };
+    ghost WIDE = { 8 };
 
     ghost bytes = { fnv_bytes };
 
@@ -119,9 +114,7 @@ impl Key for Fnv {
         let o : little 8 (Octets.number bs) ≡ bs = rw e at (little-number bs h) in
         ap (little 8) (mod-eq_of_lt b) ∙ o };
 
-    fn width() -> usize {
-        Self::WIDE
-    }
+    ghost same = { λ a b. same-little 8 a.number b.number a.fits b.fits };
 
     fn read(from: &[u8]) -> Option<Fnv> {
         match from {
@@ -141,10 +134,6 @@ impl Key for Fnv {
         (&mut to[0..8]).copy_from_slice(&bytes);
         true
     }
-
-    fn same(self, other: Fnv) -> bool {
-        self.number == other.number
-    }
 }
 
 impl Fingerprint for Fnv {
@@ -153,6 +142,6 @@ impl Fingerprint for Fnv {
     ghost some = { first_of (Prim.search rules, Prim.grind (arith, Self.row.coded.inj)) };
 
     fn of(level: u8, payload: &[u8]) -> Fnv {
-        numbered(hash_behind(level, payload))
+        Fnv::from(hash_behind(level, payload))
     }
 }

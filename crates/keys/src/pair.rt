@@ -1,7 +1,7 @@
 // A level and a container, which marking looks up together.
 ghost use Rattle.std.specs.Prelude.{◌<◌};
 
-#[derive(Clone, Copy)]
+#[derive(Clone, Copy, Debug, PartialEq, Eq)]
 pub struct Pair {
     pub level: u8,
     pub container: u8,

@@ -6,13 +6,5 @@ ghost use Rattle.keys.specs.Octets.{same_bytes};
 pub fn same_bytes(first: &[u8], second: &[u8]) -> bool
     ensures { result ≡ same_bytes first.now second.now }
 {
-    if first.len() != second.len() {
-        return false;
-    }
-    for i in 0..first.len() {
-        if first[i] != second[i] {
-            return false;
-        }
-    }
-    true
+    first == second
 }

@@ -1,6 +1,7 @@
 -- Records, what containers hold, and the first place of a fingerprint.
 use Rattle.std.specs.Prelude.{ℕ, suc, ◌+◌, cond, List, [], ◌∷◌, length, Some, None, Option}
 use Rattle.keys.specs.Octets.{same_bytes}
+use Rattle.records.specs.declared.record.Record.{Record}
 use Rattle.records.specs.declared.refusal.Place.{Place}
 
 -- a strip (level 0) or a node (levels 1 to 6): its level, the bytes of its fingerprint, its payload
@@ -8,6 +9,10 @@ pub record Rec : Type 0 where
   pub level : ℕ
   pub fingerprint : List ℕ
   pub payload : List ℕ
+
+-- a record as calls pass it, by the bytes of its fingerprint
+abbrev pub rec_of : {F : Type 0} → (F → List ℕ) → Record F → Rec
+rec_of bytes r = record { level = r.level; fingerprint = bytes r.fingerprint; payload = r.payload.now }
 
 -- what stands past the end of a list of records
 abbrev pub no_record : Rec

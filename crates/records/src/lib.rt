@@ -1,8 +1,10 @@
 // Records: what lies in a container, the shapes and limits it must keep, and every refusal there is.
 #![tactic(auto)]
 
+pub mod record;
 pub mod refusal;
 pub mod shape;
 
+pub use record::Record;
 pub use refusal::{Cause, Place, Refusal};
 pub use shape::is_shaped;

@@ -2,37 +2,38 @@
 ghost use Rattle.std.specs.Prelude.{◌≡◌};
 ghost use Rattle.records.specs.Refusals.{number_of, untold, told_at};
 
+use std::error::Error;
 use std::fmt;
 
-// Every reason for a refusal. `number` gives the one that callers are told.
-#[derive(Clone, Copy, Debug, PartialEq)]
+// Every reason for a refusal, with the number that callers are told.
+#[derive(Clone, Copy, Debug, PartialEq, Eq, Hash)]
 pub enum Cause {
-    Size,
-    Layout,
-    Shape,
-    WrongFingerprint,
-    RepeatedFingerprint,
-    BadName,
-    NoRoot,
-    BrokenTree,
-    TooShort,
-    SmallSet,
-    NoSuchPlace,
-    WrongToken,
-    Shut,
-    AlreadyAdmitted,
-    NoneFree,
-    MarkingOpen,
-    NoMarking,
-    Collision,
-    StoreFull,
-    NameKept,
-    NameNotKept,
-    TooManySheets,
-    SheetInUse,
-    TooManyTokens,
-    ContainerFree,
-    ContainerFull,
+    Size = 1,
+    Layout = 2,
+    Shape = 3,
+    WrongFingerprint = 4,
+    RepeatedFingerprint = 5,
+    BadName = 6,
+    NoRoot = 7,
+    BrokenTree = 8,
+    TooShort = 9,
+    SmallSet = 10,
+    NoSuchPlace = 11,
+    WrongToken = 12,
+    Shut = 13,
+    AlreadyAdmitted = 14,
+    NoneFree = 15,
+    MarkingOpen = 16,
+    NoMarking = 17,
+    Collision = 18,
+    StoreFull = 19,
+    NameKept = 20,
+    NameNotKept = 21,
+    TooManySheets = 22,
+    SheetInUse = 23,
+    TooManyTokens = 24,
+    ContainerFree = 25,
+    ContainerFull = 26,
 }
 
 impl Cause {
@@ -40,34 +41,7 @@ impl Cause {
     pub fn number(self) -> u8
         ensures { result ≡ number_of self }
     {
-        match self {
-            Cause::Size => 1,
-            Cause::Layout => 2,
-            Cause::Shape => 3,
-            Cause::WrongFingerprint => 4,
-            Cause::RepeatedFingerprint => 5,
-            Cause::BadName => 6,
-            Cause::NoRoot => 7,
-            Cause::BrokenTree => 8,
-            Cause::TooShort => 9,
-            Cause::SmallSet => 10,
-            Cause::NoSuchPlace => 11,
-            Cause::WrongToken => 12,
-            Cause::Shut => 13,
-            Cause::AlreadyAdmitted => 14,
-            Cause::NoneFree => 15,
-            Cause::MarkingOpen => 16,
-            Cause::NoMarking => 17,
-            Cause::Collision => 18,
-            Cause::StoreFull => 19,
-            Cause::NameKept => 20,
-            Cause::NameNotKept => 21,
-            Cause::TooManySheets => 22,
-            Cause::SheetInUse => 23,
-            Cause::TooManyTokens => 24,
-            Cause::ContainerFree => 25,
-            Cause::ContainerFull => 26,
-        }
+        self as u8
     }
 
     // What the refusal means, in a line for people.
@@ -110,44 +84,44 @@ impl Cause {
 
 impl fmt::Display for Cause {
     fn fmt<W: fmt::Write>(&self, f: &mut fmt::Formatter<W>) -> fmt::Result {
-        let text = self.meaning();
-        write!(f, "{text}")
+        f.write_str(self.meaning())
     }
 }
 
-// A record's container and its index there.
-#[derive(Clone, Copy, Debug, PartialEq)]
+impl Error for Cause {}
+
+// A record's container and its index there; places are in rising container and record order.
+#[derive(Clone, Copy, Debug, Default, PartialEq, Eq, PartialOrd, Ord, Hash)]
 pub struct Place {
     pub container: usize,
     pub index: usize,
 }
 
 // A refusal: its cause, and the place it tells of, which is 0 and 0 where it tells of none.
-#[derive(Clone, Copy, Debug, PartialEq)]
+#[derive(Clone, Copy, Debug, PartialEq, Eq)]
 pub struct Refusal {
     pub cause: Cause,
     pub place: Place,
 }
 
 impl Refusal {
-    // A refusal that tells no place.
-    pub fn of(cause: Cause) -> Self
-        ensures { result ≡ untold cause }
-    {
-        Refusal {
-            cause,
-            place: Place {
-                container: 0,
-                index: 0,
-            },
-        }
-    }
-
     // A refusal that tells the place of a record.
     pub fn at(cause: Cause, place: Place) -> Self
         ensures { result ≡ told_at cause place }
     {
         Refusal { cause, place }
+    }
+}
+
+// A cause alone is a refusal that tells no place.
+impl From<Cause> for Refusal {
+    ghost from_gives = { λ cause result. result ≡ untold cause };
+
+    fn from(cause: Cause) -> Self {
+        Refusal {
+            cause,
+            place: Place::default(),
+        }
     }
 }
 
@@ -158,3 +132,5 @@ impl fmt::Display for Refusal {
         write!(f, "refused {number}: {cause}")
     }
 }
+
+impl Error for Refusal {}

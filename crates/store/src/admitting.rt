@@ -46,11 +46,11 @@ impl<D: Device> Store<D> {
 
     // Opens the store, if its device passes the examination.
     pub fn admit(&mut self) -> Result<(), Refusal>
-        ensures answer { result ≡ admit_answer D.Kind.Key.width (λ l p. D.Kind.Key.bytes (D.Kind.Fingerprint.naming l p)) (model D.Device D.Kind.Key.bytes self.old) }
-        ensures after { model D.Device D.Kind.Key.bytes self.new ≡ after_admit D.Kind.Key.width (λ l p. D.Kind.Key.bytes (D.Kind.Fingerprint.naming l p)) (model D.Device D.Kind.Key.bytes self.old) }
+        ensures answer { result ≡ admit_answer D.Kind.Key.WIDE (λ l p. D.Kind.Key.bytes (D.Kind.Fingerprint.naming l p)) (model D.Device D.Kind.Key.bytes self.old) }
+        ensures after { model D.Device D.Kind.Key.bytes self.new ≡ after_admit D.Kind.Key.WIDE (λ l p. D.Kind.Key.bytes (D.Kind.Fingerprint.naming l p)) (model D.Device D.Kind.Key.bytes self.old) }
     {
         if self.admitted {
-            return Err(Refusal::of(Cause::AlreadyAdmitted));
+            return Err(Refusal::from(Cause::AlreadyAdmitted));
         }
         if let Err(refusal) = examine_device(&self.device) {
             return Err(refusal);

@@ -26,39 +26,39 @@ fn examine_tree<D: Device>(
     table: &mut [Slot<D::Kind>],
 ) -> Result<(), Refusal>
     requires { 63 * length (D.contents device.now) ≤ length table.old }
-    ensures answer { result ≡ tree_answer D.Kind.Key.width (D.contents device.now) (D.Kind.Key.bytes root) }
+    ensures answer { result ≡ tree_answer D.Kind.Key.WIDE (D.contents device.now) (D.Kind.Key.bytes root) }
     ensures emptied { table.new ≡ replicate (length table.old) Empty }
 {
     match examine(device, root, table) {
         Finding::Whole => Ok(()),
-        Finding::NoRoot => Err(Refusal::of(Cause::NoRoot)),
-        Finding::Broken(_) => Err(Refusal::of(Cause::BrokenTree)),
-        Finding::TableFull => Err(Refusal::of(Cause::TooShort)),
+        Finding::NoRoot => Err(Refusal::from(Cause::NoRoot)),
+        Finding::Broken(_) => Err(Refusal::from(Cause::BrokenTree)),
+        Finding::TableFull => Err(Refusal::from(Cause::TooShort)),
     }
 }
 
 impl<D: Device> Store<D> {
     // The entry and the name that a new sheet gets, with a table of so many slots for its examination.
     fn entry_for(&self, name: &[u8], slots: usize) -> Result<(usize, Name), Refusal>
-        ensures { spelt result ≡ entry_answer D.Kind.Key.width (model D.Device D.Kind.Key.bytes self.now) name.now [] slots }
+        ensures { spelt result ≡ entry_answer D.Kind.Key.WIDE (model D.Device D.Kind.Key.bytes self.now) name.now [] slots }
     {
         if !self.admitted {
-            return Err(Refusal::of(Cause::Shut));
+            return Err(Refusal::from(Cause::Shut));
         }
         if self.marking {
-            return Err(Refusal::of(Cause::MarkingOpen));
+            return Err(Refusal::from(Cause::MarkingOpen));
         }
         let Some(kept) = Name::of(name) else {
-            return Err(Refusal::of(Cause::BadName));
+            return Err(Refusal::from(Cause::BadName));
         };
         if let Some(_) = self.catalogue.entry_of(name) {
-            return Err(Refusal::of(Cause::NameKept));
+            return Err(Refusal::from(Cause::NameKept));
         }
         let Some(entry) = self.catalogue.vacant_entry() else {
-            return Err(Refusal::of(Cause::TooManySheets));
+            return Err(Refusal::from(Cause::TooManySheets));
         };
         if is_short(slots, self.device.count()) {
-            return Err(Refusal::of(Cause::TooShort));
+            return Err(Refusal::from(Cause::TooShort));
         }
         Ok((entry, kept))
     }
@@ -70,10 +70,10 @@ impl<D: Device> Store<D> {
         root: D::Kind,
         table: &mut [Slot<D::Kind>],
     ) -> Result<(), Refusal>
-        ensures answer { result ≡ keep_answer D.Kind.Key.width (model D.Device D.Kind.Key.bytes self.old) name.now (D.Kind.Key.bytes root) (length table.old) }
-        ensures after { model D.Device D.Kind.Key.bytes self.new ≡ after_keep D.Kind.Key.width (model D.Device D.Kind.Key.bytes self.old) name.now (D.Kind.Key.bytes root) (length table.old) }
+        ensures answer { result ≡ keep_answer D.Kind.Key.WIDE (model D.Device D.Kind.Key.bytes self.old) name.now (D.Kind.Key.bytes root) (length table.old) }
+        ensures after { model D.Device D.Kind.Key.bytes self.new ≡ after_keep D.Kind.Key.WIDE (model D.Device D.Kind.Key.bytes self.old) name.now (D.Kind.Key.bytes root) (length table.old) }
         ensures table { table.new ≡ keep_table (model D.Device D.Kind.Key.bytes self.old) name.now table.old }
-        ensures whole { result ≡ Ok tt → Whole D.Kind.Key.width (D.Device.contents self.old.device) (D.Kind.Key.bytes root) }
+        ensures whole { result ≡ Ok tt → Whole D.Kind.Key.WIDE (D.Device.contents self.old.device) (D.Kind.Key.bytes root) }
     {
         let (entry, name) = match self.entry_for(name, table.len()) {
             Ok(found) => found,
@@ -98,19 +98,19 @@ impl<D: Device> Store<D> {
         ensures { result ≡ drop_entry (model D.Device D.Kind.Key.bytes self.now) name.now }
     {
         if !self.admitted {
-            return Err(Refusal::of(Cause::Shut));
+            return Err(Refusal::from(Cause::Shut));
         }
         if self.marking {
-            return Err(Refusal::of(Cause::MarkingOpen));
+            return Err(Refusal::from(Cause::MarkingOpen));
         }
         if !is_nameable(name) {
-            return Err(Refusal::of(Cause::BadName));
+            return Err(Refusal::from(Cause::BadName));
         }
         let Some(entry) = self.catalogue.entry_of(name) else {
-            return Err(Refusal::of(Cause::NameNotKept));
+            return Err(Refusal::from(Cause::NameNotKept));
         };
         if self.catalogue.readings(entry) != 0 {
-            return Err(Refusal::of(Cause::SheetInUse));
+            return Err(Refusal::from(Cause::SheetInUse));
         }
         Ok(entry)
     }

@@ -14,7 +14,7 @@ use records::{Cause, Refusal, is_shaped};
 
 // Whether a level and a payload have the shape of a node.
 fn is_node<F: Fingerprint>(level: u8, payload: &[u8]) -> bool
-    ensures { result ≡ (nat_le 1 level && shaped F.Key.width level (length payload.now)) }
+    ensures { result ≡ (nat_le 1 level && shaped F.Key.WIDE level (length payload.now)) }
 {
     level >= 1 && is_shaped::<F>(level, payload)
 }
@@ -51,7 +51,7 @@ impl<D: Device> Store<D> {
         match choice {
             Choice::Stays(_) => Ok(new_record(fingerprint)),
             Choice::Opens(_) => Ok(new_record(fingerprint)),
-            Choice::NoPlace => Err(Refusal::of(Cause::StoreFull)),
+            Choice::NoPlace => Err(Refusal::from(Cause::StoreFull)),
         }
     }
 
@@ -67,13 +67,13 @@ impl<D: Device> Store<D> {
         ensures after { model D.Device D.Kind.Key.bytes self.new ≡ after_put (model D.Device D.Kind.Key.bytes self.old) fits (record { level = level; fingerprint = D.Kind.Key.bytes fingerprint; payload = payload.now }) }
     {
         if !self.admitted {
-            return Err(Refusal::of(Cause::Shut));
+            return Err(Refusal::from(Cause::Shut));
         }
         if self.marking {
-            return Err(Refusal::of(Cause::MarkingOpen));
+            return Err(Refusal::from(Cause::MarkingOpen));
         }
         if !fits {
-            return Err(Refusal::of(Cause::Shape));
+            return Err(Refusal::from(Cause::Shape));
         }
         match presence_of(&self.device, level, fingerprint, payload) {
             Presence::Absent => self.put_new(level, fingerprint, payload),
@@ -81,7 +81,7 @@ impl<D: Device> Store<D> {
                 fingerprint,
                 is_new: false,
             }),
-            Presence::Other => Err(Refusal::of(Cause::Collision)),
+            Presence::Other => Err(Refusal::from(Cause::Collision)),
         }
     }
 
@@ -96,8 +96,8 @@ impl<D: Device> Store<D> {
 
     // Puts a strip, of 1 to 1,024 bytes.
     pub fn put_strip(&mut self, payload: &[u8]) -> Result<Stored<D::Kind>, Refusal>
-        ensures answer { result ≡ put_answer (model D.Device D.Kind.Key.bytes self.old) (shaped D.Kind.Key.width 0 (length payload.now)) (record { level = 0; fingerprint = D.Kind.Key.bytes (D.Kind.Fingerprint.naming 0 payload.now); payload = payload.now }) (D.Kind.Fingerprint.naming 0 payload.now) }
-        ensures after { model D.Device D.Kind.Key.bytes self.new ≡ after_put (model D.Device D.Kind.Key.bytes self.old) (shaped D.Kind.Key.width 0 (length payload.now)) (record { level = 0; fingerprint = D.Kind.Key.bytes (D.Kind.Fingerprint.naming 0 payload.now); payload = payload.now }) }
+        ensures answer { result ≡ put_answer (model D.Device D.Kind.Key.bytes self.old) (shaped D.Kind.Key.WIDE 0 (length payload.now)) (record { level = 0; fingerprint = D.Kind.Key.bytes (D.Kind.Fingerprint.naming 0 payload.now); payload = payload.now }) (D.Kind.Fingerprint.naming 0 payload.now) }
+        ensures after { model D.Device D.Kind.Key.bytes self.new ≡ after_put (model D.Device D.Kind.Key.bytes self.old) (shaped D.Kind.Key.WIDE 0 (length payload.now)) (record { level = 0; fingerprint = D.Kind.Key.bytes (D.Kind.Fingerprint.naming 0 payload.now); payload = payload.now }) }
     {
         let fits = is_shaped::<D::Kind>(0, payload);
         self.put(fits, 0, payload)
@@ -105,8 +105,8 @@ impl<D: Device> Store<D> {
 
     // Puts a node of level 1 to 6, whose payload is the fingerprints of its 1 to 64 children.
     pub fn put_node(&mut self, level: u8, payload: &[u8]) -> Result<Stored<D::Kind>, Refusal>
-        ensures answer { result ≡ put_answer (model D.Device D.Kind.Key.bytes self.old) (nat_le 1 level && shaped D.Kind.Key.width level (length payload.now)) (record { level = level; fingerprint = D.Kind.Key.bytes (D.Kind.Fingerprint.naming level payload.now); payload = payload.now }) (D.Kind.Fingerprint.naming level payload.now) }
-        ensures after { model D.Device D.Kind.Key.bytes self.new ≡ after_put (model D.Device D.Kind.Key.bytes self.old) (nat_le 1 level && shaped D.Kind.Key.width level (length payload.now)) (record { level = level; fingerprint = D.Kind.Key.bytes (D.Kind.Fingerprint.naming level payload.now); payload = payload.now }) }
+        ensures answer { result ≡ put_answer (model D.Device D.Kind.Key.bytes self.old) (nat_le 1 level && shaped D.Kind.Key.WIDE level (length payload.now)) (record { level = level; fingerprint = D.Kind.Key.bytes (D.Kind.Fingerprint.naming level payload.now); payload = payload.now }) (D.Kind.Fingerprint.naming level payload.now) }
+        ensures after { model D.Device D.Kind.Key.bytes self.new ≡ after_put (model D.Device D.Kind.Key.bytes self.old) (nat_le 1 level && shaped D.Kind.Key.WIDE level (length payload.now)) (record { level = level; fingerprint = D.Kind.Key.bytes (D.Kind.Fingerprint.naming level payload.now); payload = payload.now }) }
     {
         let fits = is_node::<D::Kind>(level, payload);
         self.put(fits, level, payload)

@@ -33,16 +33,16 @@ impl<D: Device> Store<D> {
         ensures { result ≡ open_entry (model D.Device D.Kind.Key.bytes self.now) name.now }
     {
         if !self.admitted {
-            return Err(Refusal::of(Cause::Shut));
+            return Err(Refusal::from(Cause::Shut));
         }
         if !is_nameable(name) {
-            return Err(Refusal::of(Cause::BadName));
+            return Err(Refusal::from(Cause::BadName));
         }
         let Some(entry) = self.catalogue.entry_of(name) else {
-            return Err(Refusal::of(Cause::NameNotKept));
+            return Err(Refusal::from(Cause::NameNotKept));
         };
         if self.catalogue.readings_out() >= 16 {
-            return Err(Refusal::of(Cause::TooManyTokens));
+            return Err(Refusal::from(Cause::TooManyTokens));
         }
         Ok(entry)
     }
@@ -69,7 +69,7 @@ impl<D: Device> Store<D> {
 
     // Where the reading of a token stands.
     fn lead(&self, token: &ReadToken) -> Lead
-        ensures { result ≡ lead_at D.Kind.Key.width (model D.Device D.Kind.Key.bytes self.now) token.now }
+        ensures { result ≡ lead_at D.Kind.Key.WIDE (model D.Device D.Kind.Key.bytes self.now) token.now }
     {
         match self.catalogue.sheet(token.sheet) {
             None => Lead::Nowhere,
@@ -85,16 +85,16 @@ impl<D: Device> Store<D> {
 
     // Where the reading of a token stands, if the token is one of a reading that is out here.
     fn lead_of(&self, token: &ReadToken) -> Result<Lead, Refusal>
-        ensures { result ≡ lead_answer D.Kind.Key.width (model D.Device D.Kind.Key.bytes self.now) token.now }
+        ensures { result ≡ lead_answer D.Kind.Key.WIDE (model D.Device D.Kind.Key.bytes self.now) token.now }
     {
         if !self.admitted {
-            return Err(Refusal::of(Cause::Shut));
+            return Err(Refusal::from(Cause::Shut));
         }
         if token.number != self.number {
-            return Err(Refusal::of(Cause::WrongToken));
+            return Err(Refusal::from(Cause::WrongToken));
         }
         match self.lead(token) {
-            Lead::Nowhere => Err(Refusal::of(Cause::WrongToken)),
+            Lead::Nowhere => Err(Refusal::from(Cause::WrongToken)),
             Lead::TheEnd => Ok(Lead::TheEnd),
             Lead::Strip(place) => Ok(Lead::Strip(place)),
         }
@@ -102,7 +102,7 @@ impl<D: Device> Store<D> {
 
     // The token behind the strip that it stands at.
     fn moved_on(&self, token: ReadToken) -> ReadToken
-        ensures { result ≡ moved_on D.Kind.Key.width (model D.Device D.Kind.Key.bytes self.now) token }
+        ensures { result ≡ moved_on D.Kind.Key.WIDE (model D.Device D.Kind.Key.bytes self.now) token }
     {
         let ReadToken {
             number,
@@ -128,7 +128,7 @@ impl<D: Device> Store<D> {
         buffer: &mut [u8],
     ) -> Result<(ReadToken, Option<usize>), (Refusal, ReadToken)>
         requires { Stands (D.Device.contents self.now.device) place }
-        ensures answer { result ≡ give_answer D.Kind.Key.width (model D.Device D.Kind.Key.bytes self.now) token (length buffer.old) (payload_of (standing (D.Device.contents self.now.device) place)) }
+        ensures answer { result ≡ give_answer D.Kind.Key.WIDE (model D.Device D.Kind.Key.bytes self.now) token (length buffer.old) (payload_of (standing (D.Device.contents self.now.device) place)) }
         ensures buffer { buffer.new ≡ give_buffer buffer.old (payload_of (standing (D.Device.contents self.now.device) place)) }
     {
         match self.device.payload(place, buffer) {
@@ -143,9 +143,9 @@ impl<D: Device> Store<D> {
         token: ReadToken,
         buffer: &mut [u8],
     ) -> Result<(ReadToken, Option<usize>), (Refusal, ReadToken)>
-        ensures answer { result ≡ next_answer D.Kind.Key.width (model D.Device D.Kind.Key.bytes self.now) token (length buffer.old) }
-        ensures buffer { buffer.new ≡ next_buffer D.Kind.Key.width (model D.Device D.Kind.Key.bytes self.now) token buffer.old }
-        ensures text { DueInText D.Kind.Key.width (model D.Device D.Kind.Key.bytes self.now) token }
+        ensures answer { result ≡ next_answer D.Kind.Key.WIDE (model D.Device D.Kind.Key.bytes self.now) token (length buffer.old) }
+        ensures buffer { buffer.new ≡ next_buffer D.Kind.Key.WIDE (model D.Device D.Kind.Key.bytes self.now) token buffer.old }
+        ensures text { DueInText D.Kind.Key.WIDE (model D.Device D.Kind.Key.bytes self.now) token }
     {
         match self.lead_of(&token) {
             Err(refusal) => Err((refusal, token)),
@@ -159,8 +159,8 @@ impl<D: Device> Store<D> {
 
     // Takes a token for good: its reading is over.
     pub fn return_token(&mut self, token: ReadToken) -> Result<(), (Refusal, ReadToken)>
-        ensures answer { result ≡ return_answer D.Kind.Key.width (model D.Device D.Kind.Key.bytes self.old) token }
-        ensures after { model D.Device D.Kind.Key.bytes self.new ≡ after_return D.Kind.Key.width (model D.Device D.Kind.Key.bytes self.old) token }
+        ensures answer { result ≡ return_answer D.Kind.Key.WIDE (model D.Device D.Kind.Key.bytes self.old) token }
+        ensures after { model D.Device D.Kind.Key.bytes self.new ≡ after_return D.Kind.Key.WIDE (model D.Device D.Kind.Key.bytes self.old) token }
     {
         match self.lead_of(&token) {
             Err(refusal) => Err((refusal, token)),

@@ -17,9 +17,9 @@ use records::{Cause, Place, Refusal};
 impl<F: Fingerprint> Tape<F> {
     // How many containers there are for this kind of fingerprint.
     pub(crate) fn seen(&self) -> usize
-        ensures { result ≡ length (held_by F.Key.width self.now) }
+        ensures { result ≡ length (held_by F.Key.WIDE self.now) }
     {
-        if self.width == F::width() {
+        if self.width == F::WIDE {
             self.containers
         } else {
             0
@@ -28,34 +28,34 @@ impl<F: Fingerprint> Tape<F> {
 
     // Counts the records of a container.
     pub(crate) fn tally(&self, container: usize) -> Result<Tally, Refusal>
-        ensures { result ≡ of_container (λ rs. record { records = length rs; payload = payload_bytes rs }) (held_by F.Key.width self.now) container }
+        ensures { result ≡ of_container (λ rs. record { records = length rs; payload = payload_bytes rs }) (held_by F.Key.WIDE self.now) container }
     {
         if container >= self.seen() {
-            return Err(Refusal::of(Cause::NoSuchPlace));
+            return Err(Refusal::from(Cause::NoSuchPlace));
         }
         Ok(count_in(&self.bytes, self.width, self.entries, container))
     }
 
     // Where the entry of a place begins.
     pub(crate) fn find(&self, place: Place) -> Result<usize, Refusal>
-        ensures { MatchResult result (λ at. Found F.Key.width self.now.bytes.items (records_of (held_by F.Key.width self.now) place.container) place.index at) (λ refusal. (refusal ≡ untold NoSuchPlace) × (length (records_of (held_by F.Key.width self.now) place.container) ≤ place.index)) }
+        ensures { MatchResult result (λ at. Found F.Key.WIDE self.now.bytes.items (records_of (held_by F.Key.WIDE self.now) place.container) place.index at) (λ refusal. (refusal ≡ untold NoSuchPlace) × (length (records_of (held_by F.Key.WIDE self.now) place.container) ≤ place.index)) }
     {
         if place.container >= self.seen() {
-            return Err(Refusal::of(Cause::NoSuchPlace));
+            return Err(Refusal::from(Cause::NoSuchPlace));
         }
         match seek(&self.bytes, self.width, self.entries, place) {
             Some(at) => Ok(at),
-            None => Err(Refusal::of(Cause::NoSuchPlace)),
+            None => Err(Refusal::from(Cause::NoSuchPlace)),
         }
     }
 
     // Adds an entry behind the others; the tape has space for whatever its container takes.
     pub(crate) fn push(&mut self, container: usize, level: u8, fingerprint: F, payload: &[u8])
-        requires here { container < length (held_by F.Key.width self.old) }
+        requires here { container < length (held_by F.Key.WIDE self.old) }
         requires short { length payload.now ≤ 1280 }
-        requires one { length (records_of (held_by F.Key.width self.old) container) < 63 }
-        requires all { payload_bytes (records_of (held_by F.Key.width self.old) container) + length payload.now ≤ 7168 }
-        ensures { held_by F.Key.width self.new ≡ appended (held_by F.Key.width self.old) container (record { level = level; fingerprint = F.Key.bytes fingerprint; payload = payload.now }) }
+        requires one { length (records_of (held_by F.Key.WIDE self.old) container) < 63 }
+        requires all { payload_bytes (records_of (held_by F.Key.WIDE self.old) container) + length payload.now ≤ 7168 }
+        ensures { held_by F.Key.WIDE self.new ≡ appended (held_by F.Key.WIDE self.old) container (record { level = level; fingerprint = F.Key.bytes fingerprint; payload = payload.now }) }
     {
         let used = self.used;
         add_entry(
@@ -67,6 +67,6 @@ impl<F: Fingerprint> Tape<F> {
             payload,
         );
         self.entries += 1;
-        self.used = used + (F::width() + 4 + payload.len());
+        self.used = used + (F::WIDE + 4 + payload.len());
     }
 }

@@ -12,7 +12,7 @@ use records::{Cause, Place, Refusal};
 impl<F: Fingerprint> Device for Tape<F> {
     type Kind = F;
 
-    ghost contents = { λ t. held_by F.Key.width t };
+    ghost contents = { λ t. held_by F.Key.WIDE t };
 
     ghost held = { λ t. held-held _ _ _ _ _ _ t.good };
 
@@ -32,7 +32,7 @@ impl<F: Fingerprint> Device for Tape<F> {
 
     fn level(&self, place: Place) -> Result<u8, Refusal> {
         let at = self.find(place)?;
-        Ok(head_at(&self.bytes, F::width(), at).level)
+        Ok(head_at(&self.bytes, F::WIDE, at).level)
     }
 
     fn fingerprint(&self, place: Place) -> Result<F, Refusal> {
@@ -42,15 +42,15 @@ impl<F: Fingerprint> Device for Tape<F> {
 
     fn payload_len(&self, place: Place) -> Result<usize, Refusal> {
         let at = self.find(place)?;
-        Ok(head_at(&self.bytes, F::width(), at).len)
+        Ok(head_at(&self.bytes, F::WIDE, at).len)
     }
 
     fn payload(&self, place: Place, to: &mut [u8]) -> Result<usize, Refusal> {
         let at = self.find(place)?;
-        let width = F::width();
+        let width = F::WIDE;
         let head = head_at(&self.bytes, width, at);
         if head.len > to.len() {
-            return Err(Refusal::of(Cause::TooShort));
+            return Err(Refusal::from(Cause::TooShort));
         }
         let from = at + 4 + width;
         let next = head.next;
@@ -77,10 +77,10 @@ impl<F: Fingerprint> Device for Tape<F> {
         let tally = self.tally(container)?;
         let len = payload.len();
         if level > 6 || len < 1 || len > 1280 {
-            return Err(Refusal::of(Cause::Shape));
+            return Err(Refusal::from(Cause::Shape));
         }
         if tally.records >= 63 || tally.payload > 7168 - len {
-            return Err(Refusal::of(Cause::ContainerFull));
+            return Err(Refusal::from(Cause::ContainerFull));
         }
         self.push(container, level, fingerprint, payload);
         Ok(())
@@ -88,7 +88,7 @@ impl<F: Fingerprint> Device for Tape<F> {
 
     fn erase(&mut self, container: usize) -> Result<(), Refusal> {
         if container >= self.count() {
-            return Err(Refusal::of(Cause::NoSuchPlace));
+            return Err(Refusal::from(Cause::NoSuchPlace));
         }
         let left = sweep(&mut self.bytes, self.width, self.entries, container);
         self.entries = left.entries;

@@ -12,29 +12,29 @@ use std::marker::PhantomData;
 
 // The length of a tape of n containers; there are 2 to 32.
 pub fn tape_size<F: Fingerprint>(n: usize) -> Option<usize>
-    ensures { result ≡ (if countable n then Some (tape_size F.Key.width n) else None) }
+    ensures { result ≡ (if countable n then Some (tape_size F.Key.WIDE n) else None) }
 {
     if n < 2 || n > 32 {
         return None;
     }
-    Some(16 + n * (63 * (F::width() + 4) + 7168))
+    Some(16 + n * (63 * (F::WIDE + 4) + 7168))
 }
 
 impl<F: Fingerprint> Tape<F> {
     // An empty tape of n containers over bytes of exactly its length; other bytes come back as they are.
     pub fn lay_out(bytes: Vec<u8>, n: usize) -> Result<Tape<F>, (Refusal, Vec<u8>)>
-        ensures answer { is_ok result ≡ (countable n && vec_len bytes == tape_size F.Key.width n) }
-        ensures empty { MatchResult result (λ t. held_by F.Key.width t ≡ replicate n []) (λ refused. refused ≡ (untold Size, bytes)) }
+        ensures answer { is_ok result ≡ (countable n && vec_len bytes == tape_size F.Key.WIDE n) }
+        ensures empty { MatchResult result (λ t. held_by F.Key.WIDE t ≡ replicate n []) (λ refused. refused ≡ (untold Size, bytes)) }
     {
         let Some(size) = tape_size::<F>(n) else {
-            return Err((Refusal::of(Cause::Size), bytes));
+            return Err((Refusal::from(Cause::Size), bytes));
         };
         if bytes.len() != size {
-            return Err((Refusal::of(Cause::Size), bytes));
+            return Err((Refusal::from(Cause::Size), bytes));
         }
         Ok(Tape {
             bytes,
-            width: F::width(),
+            width: F::WIDE,
             containers: n,
             entries: 0,
             used: 0,

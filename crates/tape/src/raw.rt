@@ -38,8 +38,8 @@ pub(crate) fn head_at(bytes: &[u8], width: usize, at: usize) -> Head
 
 // The fingerprint at `at`.
 pub(crate) fn fingerprint_at<F: Fingerprint>(bytes: &[u8], at: usize) -> F
-    requires { at + F.Key.width ≤ length bytes.now }
-    ensures { result ≡ F.Key.key (take F.Key.width (drop at bytes.now)) }
+    requires { at + F.Key.WIDE ≤ length bytes.now }
+    ensures { result ≡ F.Key.key (take F.Key.WIDE (drop at bytes.now)) }
 {
     match F::read(&bytes[at..]) {
         Some(fingerprint) => fingerprint,
@@ -74,11 +74,11 @@ fn put_entry<F: Fingerprint>(
     fingerprint: F,
     payload: &[u8],
 )
-    requires space { F.Key.width + 4 + length payload.now ≤ length to.old }
+    requires space { F.Key.WIDE + 4 + length payload.now ≤ length to.old }
     requires short { length payload.now ≤ 1280 }
-    ensures { to.new ≡ laid_before (record { container = container; stored = record { level = level; fingerprint = F.Key.bytes fingerprint; payload = payload.now } }) (drop (F.Key.width + 4 + length payload.now) to.old) }
+    ensures { to.new ≡ laid_before (record { container = container; stored = record { level = level; fingerprint = F.Key.bytes fingerprint; payload = payload.now } }) (drop (F.Key.WIDE + 4 + length payload.now) to.old) }
 {
-    let width = F::width();
+    let width = F::WIDE;
     put_head(to, container, level, payload.len());
     let _ = fingerprint.write(&mut to[4..]);
     put_front(&mut to[width + 4..], payload);
@@ -93,9 +93,9 @@ pub(crate) fn add_entry<F: Fingerprint>(
     fingerprint: F,
     payload: &[u8],
 )
-    requires space { at + (F.Key.width + 4 + length payload.now) ≤ length bytes.old }
+    requires space { at + (F.Key.WIDE + 4 + length payload.now) ≤ length bytes.old }
     requires short { length payload.now ≤ 1280 }
-    ensures { bytes.new ≡ take at bytes.old ++ laid_before (record { container = container; stored = record { level = level; fingerprint = F.Key.bytes fingerprint; payload = payload.now } }) (drop (F.Key.width + 4 + length payload.now) (drop at bytes.old)) }
+    ensures { bytes.new ≡ take at bytes.old ++ laid_before (record { container = container; stored = record { level = level; fingerprint = F.Key.bytes fingerprint; payload = payload.now } }) (drop (F.Key.WIDE + 4 + length payload.now) (drop at bytes.old)) }
 {
     put_entry(&mut bytes[at..], container, level, fingerprint, payload);
 }

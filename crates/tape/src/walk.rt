@@ -68,10 +68,10 @@ pub(crate) fn first_in<F: Fingerprint>(
     container: usize,
     fingerprint: F,
 ) -> Option<Place>
-    requires { Logged F.Key.width entries bytes.now }
-    ensures { result ≡ place_among (F.Key.bytes fingerprint) container 0 (records_in container (log_of F.Key.width entries bytes.now)) None }
+    requires { Logged F.Key.WIDE entries bytes.now }
+    ensures { result ≡ place_among (F.Key.bytes fingerprint) container 0 (records_in container (log_of F.Key.WIDE entries bytes.now)) None }
 {
-    let width = F::width();
+    let width = F::WIDE;
     let mut at = 0;
     let mut index = 0;
     for i in 0..entries {

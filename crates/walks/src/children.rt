@@ -14,9 +14,9 @@ pub(crate) const LONGEST: usize = 7168;
 
 // The fingerprint at an index of a payload, if the payload has so many.
 pub(crate) fn piece_at<F: Fingerprint>(payload: &[u8], index: usize) -> Option<F>
-    ensures { result ≡ as_key F.Key.key (slice_get (cut F.Key.width payload.now) index) }
+    ensures { result ≡ as_key F.Key.key (slice_get (cut F.Key.WIDE payload.now) index) }
 {
-    let width = F::width();
+    let width = F::WIDE;
     if index >= payload.len() / width {
         return None;
     }
@@ -25,7 +25,7 @@ pub(crate) fn piece_at<F: Fingerprint>(payload: &[u8], index: usize) -> Option<F
 
 // The child at an index of the record at a place, if there is one.
 pub(crate) fn child_at<D: Device>(device: &D, place: Place, index: usize) -> Option<D::Kind>
-    ensures { result ≡ as_key D.Kind.Key.key (slice_get (cut D.Kind.Key.width (payload_of (standing (D.contents device.now) place))) index) }
+    ensures { result ≡ as_key D.Kind.Key.key (slice_get (cut D.Kind.Key.WIDE (payload_of (standing (D.contents device.now) place))) index) }
 {
     let mut buffer = [0u8; LONGEST];
     match device.payload(place, &mut buffer) {
@@ -36,11 +36,11 @@ pub(crate) fn child_at<D: Device>(device: &D, place: Place, index: usize) -> Opt
 
 // How many children the record at a place has.
 pub(crate) fn child_count<D: Device>(device: &D, place: Place) -> usize
-    ensures is { result ≡ length (cut D.Kind.Key.width (payload_of (standing (D.contents device.now) place))) }
+    ensures is { result ≡ length (cut D.Kind.Key.WIDE (payload_of (standing (D.contents device.now) place))) }
     ensures few { result ≤ 7168 }
 {
     match device.payload_len(place) {
-        Ok(long) => long / D::Kind::width(),
+        Ok(long) => long / D::Kind::WIDE,
         Err(_) => 0,
     }
 }

@@ -49,7 +49,7 @@ fn strip_below<D: Device>(
     position: u64,
 ) -> Option<Place>
     requires { space ≡ span level }
-    ensures { result ≡ if_some None (first_place (D.contents device.now)) (seek (children D.Kind.Key.width (D.contents device.now)) level (D.Kind.Key.bytes node) position) }
+    ensures { result ≡ if_some None (first_place (D.contents device.now)) (seek (children D.Kind.Key.WIDE (D.contents device.now)) level (D.Kind.Key.bytes node) position) }
 {
     if level == 0 {
         return if position == 0 {
@@ -68,7 +68,7 @@ fn strip_below<D: Device>(
 fn next_below<D: Device>(device: &D, node: D::Kind, level: u8, space: u64, position: u64) -> u64
     requires low { level ≤ 6 }
     requires space { space ≡ span level }
-    ensures is { result ≡ next (children D.Kind.Key.width (D.contents device.now)) level (D.Kind.Key.bytes node) position }
+    ensures is { result ≡ next (children D.Kind.Key.WIDE (D.contents device.now)) level (D.Kind.Key.bytes node) position }
     ensures small { result ≤ 128 * span level }
 {
     if level == 0 {
@@ -89,7 +89,7 @@ fn next_below<D: Device>(device: &D, node: D::Kind, level: u8, space: u64, posit
 
 // The place of the strip at a position of the tree under a root, if the position is one of a strip there.
 pub fn strip_at<D: Device>(device: &D, root: D::Kind, position: u64) -> Option<Place>
-    ensures { result ≡ strip_place D.Kind.Key.width (D.contents device.now) (D.Kind.Key.bytes root) position }
+    ensures { result ≡ strip_place D.Kind.Key.WIDE (D.contents device.now) (D.Kind.Key.bytes root) position }
 {
     let level = height_of(device, root);
     if level > 6 {
@@ -100,7 +100,7 @@ pub fn strip_at<D: Device>(device: &D, root: D::Kind, position: u64) -> Option<P
 
 // The position after one of the tree under a root: that of the next strip, or the end.
 pub fn position_after<D: Device>(device: &D, root: D::Kind, position: u64) -> u64
-    ensures { result ≡ position_after D.Kind.Key.width (D.contents device.now) (D.Kind.Key.bytes root) position }
+    ensures { result ≡ position_after D.Kind.Key.WIDE (D.contents device.now) (D.Kind.Key.bytes root) position }
 {
     let level = height_of(device, root);
     if level > 6 {
@@ -111,7 +111,7 @@ pub fn position_after<D: Device>(device: &D, root: D::Kind, position: u64) -> u6
 
 // Where a position of the tree under a root leads: to a strip, to the end, or nowhere.
 pub fn leads_to<D: Device>(device: &D, root: D::Kind, position: u64) -> Lead
-    ensures { result ≡ lead_of D.Kind.Key.width (D.contents device.now) (D.Kind.Key.bytes root) position }
+    ensures { result ≡ lead_of D.Kind.Key.WIDE (D.contents device.now) (D.Kind.Key.bytes root) position }
 {
     let level = height_of(device, root);
     if level > 6 {

@@ -19,7 +19,7 @@ fn sweep_tree<D: Device>(
     root: D::Kind,
     table: &mut [Slot<D::Kind>],
 ) -> Result<(), Finding>
-    ensures { Emptied D.Kind.Key.bytes (keys_of table.old) → Passed D.Kind.Key.width (D.contents device.now) (D.Kind.Key.bytes root) (length table.old) (WholeTree D.Kind.Key.width (D.contents device.now) (D.Kind.Key.bytes root)) result }
+    ensures { Emptied D.Kind.Key.bytes (keys_of table.old) → Passed D.Kind.Key.WIDE (D.contents device.now) (D.Kind.Key.bytes root) (length table.old) (WholeTree D.Kind.Key.WIDE (D.contents device.now) (D.Kind.Key.bytes root)) result }
 {
     let level = height_of(device, root);
     if level == 0 {
@@ -33,9 +33,9 @@ fn sweep_tree<D: Device>(
 
 // Examines the tree, and leaves in the table what was seen of it.
 fn examine_filling<D: Device>(device: &D, root: D::Kind, seen: &mut [Slot<D::Kind>]) -> Finding
-    ensures tells { Tells D.Kind.Key.width (D.contents device.now) (D.Kind.Key.bytes root) (length seen.old) result }
+    ensures tells { Tells D.Kind.Key.WIDE (D.contents device.now) (D.Kind.Key.bytes root) (length seen.old) result }
     ensures absent { (StoredNode (D.contents device.now) (D.Kind.Key.bytes root) → ⊥) → result ≡ Finding.NoRoot }
-    ensures whole { length (all (D.contents device.now)) ≤ length seen.old → WholeTree D.Kind.Key.width (D.contents device.now) (D.Kind.Key.bytes root) → result ≡ Finding.Whole }
+    ensures whole { length (all (D.contents device.now)) ≤ length seen.old → WholeTree D.Kind.Key.WIDE (D.contents device.now) (D.Kind.Key.bytes root) → result ≡ Finding.Whole }
 {
     empty(seen);
     match sweep_tree(device, root, seen) {
@@ -47,9 +47,9 @@ fn examine_filling<D: Device>(device: &D, root: D::Kind, seen: &mut [Slot<D::Kin
 // Examines the tree under a root, and looks at each of its nodes once. The table should have a slot for each record; it is emptied
 // first, and left empty.
 pub fn examine<D: Device>(device: &D, root: D::Kind, table: &mut [Slot<D::Kind>]) -> Finding
-    ensures tells { Tells D.Kind.Key.width (D.contents device.now) (D.Kind.Key.bytes root) (length table.old) result }
+    ensures tells { Tells D.Kind.Key.WIDE (D.contents device.now) (D.Kind.Key.bytes root) (length table.old) result }
     ensures absent { (StoredNode (D.contents device.now) (D.Kind.Key.bytes root) → ⊥) → result ≡ Finding.NoRoot }
-    ensures whole { length (all (D.contents device.now)) ≤ length table.old → WholeTree D.Kind.Key.width (D.contents device.now) (D.Kind.Key.bytes root) → result ≡ Finding.Whole }
+    ensures whole { length (all (D.contents device.now)) ≤ length table.old → WholeTree D.Kind.Key.WIDE (D.contents device.now) (D.Kind.Key.bytes root) → result ≡ Finding.Whole }
     ensures emptied { table.new ≡ replicate (length table.old) Empty }
 {
     let finding = examine_filling(device, root, table);

@@ -63,9 +63,9 @@ fn admit_pieces<D: Device>(
     table: &mut [Slot<D::Kind>],
 ) -> Result<(), Finding>
     requires { 1 ≤ level }
-    ensures { AdmitsAll D.Kind.Key.bytes D.Kind.Key.width (D.contents device.now) place level payload.now (keys_of table.old) (keys_of table.new) result }
+    ensures { AdmitsAll D.Kind.Key.bytes D.Kind.Key.WIDE (D.contents device.now) place level payload.now (keys_of table.old) (keys_of table.new) result }
 {
-    for index in 0..payload.len() / D::Kind::width() {
+    for index in 0..payload.len() / D::Kind::WIDE {
         if let Some(child) = piece_at(payload, index) {
             admit_child(device, place, level, child, table)?;
         }
@@ -81,7 +81,7 @@ fn admit_children<D: Device>(
     table: &mut [Slot<D::Kind>],
 ) -> Result<(), Finding>
     requires { 1 ≤ level }
-    ensures { (payload : List ℕ) → AdmitsAll D.Kind.Key.bytes D.Kind.Key.width (D.contents device.now) place level payload (keys_of table.old) (keys_of table.new) result }
+    ensures { (payload : List ℕ) → AdmitsAll D.Kind.Key.bytes D.Kind.Key.WIDE (D.contents device.now) place level payload (keys_of table.old) (keys_of table.new) result }
 {
     let mut buffer = [0u8; LONGEST];
     match device.payload(place, &mut buffer) {
@@ -98,7 +98,7 @@ fn visit_node<D: Device>(
     table: &mut [Slot<D::Kind>],
 ) -> Result<(), Finding>
     requires { 1 ≤ level }
-    ensures { (done : List (List ℕ)) → Moves D.Kind.Key.bytes D.Kind.Key.width (D.contents device.now) level done (keys_of table.old) level (D.Kind.Key.bytes node ∷ done) (keys_of table.new) result }
+    ensures { (done : List (List ℕ)) → Moves D.Kind.Key.bytes D.Kind.Key.WIDE (D.contents device.now) level done (keys_of table.old) level (D.Kind.Key.bytes node ∷ done) (keys_of table.new) result }
 {
     if !lookup(table, table.len(), node) {
         return Ok(());
@@ -117,7 +117,7 @@ fn visit_container<D: Device>(
     table: &mut [Slot<D::Kind>],
 ) -> Result<(), Finding>
     requires { 1 ≤ level }
-    ensures { (done : List (List ℕ)) → Moves D.Kind.Key.bytes D.Kind.Key.width (D.contents device.now) level done (keys_of table.old) level (map (λ x. x.fingerprint) (records_of (D.contents device.now) container) ++ done) (keys_of table.new) result }
+    ensures { (done : List (List ℕ)) → Moves D.Kind.Key.bytes D.Kind.Key.WIDE (D.contents device.now) level done (keys_of table.old) level (map (λ x. x.fingerprint) (records_of (D.contents device.now) container) ++ done) (keys_of table.new) result }
 {
     let Ok(count) = device.records(container) else {
         return Ok(());
@@ -133,7 +133,7 @@ fn visit_container<D: Device>(
 // Visits the nodes of a level, in rising container order.
 fn visit_level<D: Device>(device: &D, level: u8, table: &mut [Slot<D::Kind>]) -> Result<(), Finding>
     requires { 1 ≤ level }
-    ensures { Moves D.Kind.Key.bytes D.Kind.Key.width (D.contents device.now) level [] (keys_of table.old) (level - 1) [] (keys_of table.new) result }
+    ensures { Moves D.Kind.Key.bytes D.Kind.Key.WIDE (D.contents device.now) level [] (keys_of table.old) (level - 1) [] (keys_of table.new) result }
 {
     for container in 0..device.count() {
         visit_container(device, container, level, table)?;
@@ -147,7 +147,7 @@ pub(crate) fn visit_levels<D: Device>(
     top: u8,
     table: &mut [Slot<D::Kind>],
 ) -> Result<(), Finding>
-    ensures { Moves D.Kind.Key.bytes D.Kind.Key.width (D.contents device.now) top [] (keys_of table.old) 0 [] (keys_of table.new) result }
+    ensures { Moves D.Kind.Key.bytes D.Kind.Key.WIDE (D.contents device.now) top [] (keys_of table.old) 0 [] (keys_of table.new) result }
 {
     let mut level = top;
     while level > 0 {

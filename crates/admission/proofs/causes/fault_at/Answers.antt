@@ -14,12 +14,12 @@ not_both e x a h k = let z : ◌≡◌ {A = ℕ} 0 1 = let y = h ∙ k in cc in 
 pub returns-in_err-len : goal.returns-in_err-len
 returns-in_err-len g c =
     let cs = g.D.Device.contents c.args.device.now in
-    let told = payload_told g.D.Kind.Key.width cs c.args.place (g.met.D.Device.held c.args.device.now) c.requires in
+    let told = payload_told g.D.Kind.Key.WIDE cs c.args.place (g.met.D.Device.held c.args.device.now) c.requires in
     absurd (not_both _ _ _ c.in_err-len.ensures.answer told)
 
 pub returns : goal.returns
 returns g c =
-    let w = g.D.Kind.Key.width in
+    let w = g.D.Kind.Key.WIDE in
     let cs = g.D.Device.contents c.args.device.now in
     let p = c.args.place in
     let r = record_at cs p in

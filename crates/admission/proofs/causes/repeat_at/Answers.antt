@@ -10,5 +10,5 @@ pub returns : goal.returns
 returns g c =
     let cs = g.D.Device.contents c.args.device.now in
     let p = c.args.place in
-    let name = name_told g.D.Kind.Key.bytes g.D.Kind.Key.key g.D.Kind.Key.width g.met.D.Kind.Key.any cs p (g.met.D.Device.held c.args.device.now) c.requires _ c.in_ok-fingerprint.ensures in
+    let name = name_told g.D.Kind.Key.bytes g.D.Kind.Key.key g.D.Kind.Key.WIDE g.met.D.Kind.Key.any cs p (g.met.D.Device.held c.args.device.now) c.requires _ c.in_ok-fingerprint.ensures in
     ap Ok (c.then_some.ensures ∙ ap (λ b. then_some b RepeatedFingerprint) (c.is_earlier-repeated.ensures ∙ ap (λ o. is_earlier o p) (c.first_place.ensures ∙ ap (first_place cs) name)))

@@ -10,7 +10,7 @@ pub returns-in-Some : goal.returns-in-Some
 returns-in-Some g c =
     let cs = g.D.Device.contents c.args.device.now in
     let name : ℕ → List ℕ → List ℕ = λ l p. g.D.Kind.Key.bytes (g.D.Kind.Fingerprint.naming l p) in
-    let judge = cause_of g.D.Kind.Key.width name cs c.args.examination in
+    let judge = cause_of g.D.Kind.Key.WIDE name cs c.args.examination in
     let rs = records_of cs c.args.container in
     let n = same_ok _ _ _ c.in_ok-count.ensures (records_told cs c.args.container c.requires) in
     let inside : c.loop-index.index < length rs = (let t = c.loop-index-test.true in omega arith) in
@@ -20,7 +20,7 @@ pub loop-index-preserved : goal.loop-index-preserved
 loop-index-preserved g c =
     let cs = g.D.Device.contents c.args.device.now in
     let name : ℕ → List ℕ → List ℕ = λ l p. g.D.Kind.Key.bytes (g.D.Kind.Fingerprint.naming l p) in
-    let judge = cause_of g.D.Kind.Key.width name cs c.args.examination in
+    let judge = cause_of g.D.Kind.Key.WIDE name cs c.args.examination in
     let rs = records_of cs c.args.container in
     let n = same_ok _ _ _ c.in_ok-count.ensures (records_told cs c.args.container c.requires) in
     let inside : c.loop-index.index < length rs = (let t = c.loop-index-test.true in omega arith) in
@@ -30,7 +30,7 @@ pub returns : goal.returns
 returns g c =
     let cs = g.D.Device.contents c.args.device.now in
     let name : ℕ → List ℕ → List ℕ = λ l p. g.D.Kind.Key.bytes (g.D.Kind.Fingerprint.naming l p) in
-    let judge = cause_of g.D.Kind.Key.width name cs c.args.examination in
+    let judge = cause_of g.D.Kind.Key.WIDE name cs c.args.examination in
     let rs = records_of cs c.args.container in
     let n = same_ok _ _ _ c.in_ok-count.ensures (records_told cs c.args.container c.requires) in
     ap answer_by (sym (among-all judge c.args.container c.loop-index.index rs (let t = c.loop-index-test.false in omega arith)) ∙ c.loop-index.invariant)

@@ -9,5 +9,5 @@ abbrev pub invariant-loop-index : goal.invariant-loop-index
 invariant-loop-index g l =
     let cs = g.D.Device.contents l.device in
     let name : ℕ → List ℕ → List ℕ = λ l p. g.D.Kind.Key.bytes (g.D.Kind.Fingerprint.naming l p) in
-    let judge = cause_of g.D.Kind.Key.width name cs l.examination in
+    let judge = cause_of g.D.Kind.Key.WIDE name cs l.examination in
     refused_among judge l.container l.index (drop l.index (records_of cs l.container)) ≡ refused_among judge l.container 0 (records_of cs l.container)

@@ -9,7 +9,7 @@ pub returns-in_err-examine_container : goal.returns-in_err-examine_container
 returns-in_err-examine_container g c =
     let cs = g.D.Device.contents c.args.device.now in
     let name : ℕ → List ℕ → List ℕ = λ l p. g.D.Kind.Key.bytes (g.D.Kind.Fingerprint.naming l p) in
-    let judge = cause_of g.D.Kind.Key.width name cs c.args.examination in
+    let judge = cause_of g.D.Kind.Key.WIDE name cs c.args.examination in
     let k = c.loop-container.container in
     let inside : k < length cs = (let n = c.count-count.ensures in let t = c.loop-container-test.true in omega arith) in
     let p = err_from_is_err_and c.from_residual.result c.from_residual.ensures.1 in
@@ -19,7 +19,7 @@ pub loop-container-preserved : goal.loop-container-preserved
 loop-container-preserved g c =
     let cs = g.D.Device.contents c.args.device.now in
     let name : ℕ → List ℕ → List ℕ = λ l p. g.D.Kind.Key.bytes (g.D.Kind.Fingerprint.naming l p) in
-    let judge = cause_of g.D.Kind.Key.width name cs c.args.examination in
+    let judge = cause_of g.D.Kind.Key.WIDE name cs c.args.examination in
     let k = c.loop-container.container in
     let inside : k < length cs = (let n = c.count-count.ensures in let t = c.loop-container-test.true in omega arith) in
     sym (from_more judge k cs inside (none_refused _ c.in_ok-examine_container.ensures)) ∙ c.loop-container.invariant
@@ -28,5 +28,5 @@ pub returns : goal.returns
 returns g c =
     let cs = g.D.Device.contents c.args.device.now in
     let name : ℕ → List ℕ → List ℕ = λ l p. g.D.Kind.Key.bytes (g.D.Kind.Fingerprint.naming l p) in
-    let judge = cause_of g.D.Kind.Key.width name cs c.args.examination in
+    let judge = cause_of g.D.Kind.Key.WIDE name cs c.args.examination in
     ap answer_by (sym (from_all judge c.loop-container.container cs (let n = c.count-count.ensures in let t = c.loop-container-test.false in omega arith)) ∙ c.loop-container.invariant)

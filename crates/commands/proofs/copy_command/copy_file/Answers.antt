@@ -12,7 +12,7 @@ onto_free cs ds es n l d e = e ∙ ap (λ x. stacked x cs) (d ∙ ap (λ k. repl
 
 pub returns : goal.returns
 returns g c =
-    let w = g.F.Key.width in
+    let w = g.F.Key.WIDE in
     let cs = contents_of w c.args.file.now in
     let n = c.count-count.ensures in
     let tape : held_by w c.copy_all.new.to ≡ cs = onto_free cs _ _ _ n c.in_ok-between.ensures c.in_ok-copy_all.ensures.moved in

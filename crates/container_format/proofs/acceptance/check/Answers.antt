@@ -8,7 +8,7 @@ use Rattle.container_format.proofs.acceptance.check.Goals as goal
 
 pub returns-then-not-has_length : goal.returns-then-not-has_length
 returns-then-not-has_length g c =
-    let w = g.F.Key.width in
+    let w = g.F.Key.WIDE in
     let bs = c.args.bytes.now in
     record {
       answer = size_refused w bs c.of.result c.of.ensures (no_count w c.container_size-size.result (length bs) c.container_size-size.ensures (λ count. c.if-not-has_length.ensures.no count));
@@ -17,21 +17,21 @@ returns-then-not-has_length g c =
 
 pub returns-then-containers_in_order : goal.returns-then-containers_in_order
 returns-then-containers_in_order g c =
-    let w = g.F.Key.width in
+    let w = g.F.Key.WIDE in
     let bs = c.args.bytes.now in
     let n = length bs / c.container_size-size.result in
     let b : Bytes bs = All-from_get_or (λ x. x < 256) bs 0 (λ i h. let f = c.type_inv.bytes i in omega arith) in
     record {
-      answer = is_file w n bs b (c.if-not-has_length.ensures.yes tt) (subst (λ v. ContainersOk v n bs) c.width.ensures (c.if-containers_in_order.ensures.yes tt));
+      answer = is_file w n bs b (c.if-not-has_length.ensures.yes tt) (subst (λ v. ContainersOk v n bs) c.WIDE.ensures (c.if-containers_in_order.ensures.yes tt));
       one = one_file w;
     }
 
 pub returns-else-containers_in_order : goal.returns-else-containers_in_order
 returns-else-containers_in_order g c =
-    let w = g.F.Key.width in
+    let w = g.F.Key.WIDE in
     let bs = c.args.bytes.now in
     let n = length bs / c.container_size-size.result in
     record {
-      answer = layout_refused w n bs c.of-else-containers_in_order.result c.of-else-containers_in_order.ensures (c.if-not-has_length.ensures.yes tt) (λ ok. c.if-containers_in_order.ensures.no (subst (λ v. ContainersOk v n bs) (sym c.width.ensures) ok));
+      answer = layout_refused w n bs c.of-else-containers_in_order.result c.of-else-containers_in_order.ensures (c.if-not-has_length.ensures.yes tt) (λ ok. c.if-containers_in_order.ensures.no (subst (λ v. ContainersOk v n bs) (sym c.WIDE.ensures) ok));
       one = one_file w;
     }

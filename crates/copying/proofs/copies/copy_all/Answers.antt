@@ -7,4 +7,4 @@ pub returns : goal.returns
 returns g c =
     let cs = g.X.Device.contents c.args.from.now in
     let es = g.Y.Device.contents c.copy_containers.new.to in
-    record { moved = c.copy_containers.ensures; same = λ stored free. moved_fresh g.X.Kind.Key.width cs c.copy_containers.result es stored (subst (λ ds. MovedAll cs ds c.copy_containers.result es) free c.copy_containers.ensures) }
+    record { moved = c.copy_containers.ensures; same = λ stored free. moved_fresh g.X.Kind.Key.WIDE cs c.copy_containers.result es stored (subst (λ ds. MovedAll cs ds c.copy_containers.result es) free c.copy_containers.ensures) }

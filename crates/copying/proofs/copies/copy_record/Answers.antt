@@ -10,13 +10,13 @@ use Rattle.copying.proofs.copies.copy_record.Goals as goal
 pub returns-in_err-len : goal.returns-in_err-len
 returns-in_err-len g c =
     let cs = g.X.Device.contents c.args.from.now in
-    let told = payload_told g.X.Kind.Key.width cs c.args.place (g.met.X.Device.held c.args.from.now) c.requires in
+    let told = payload_told g.X.Kind.Key.WIDE cs c.args.place (g.met.X.Device.held c.args.from.now) c.requires in
     let here = c.in_err-len.ensures.answer in
     absurd (let z : ◌≡◌ {A = ℕ} 0 1 = cc in omega arith)
 
 pub returns : goal.returns
 returns g c =
-    let w = g.X.Kind.Key.width in
+    let w = g.X.Kind.Key.WIDE in
     let cs = g.X.Device.contents c.args.from.now in
     let ds = g.Y.Device.contents c.args.to.now in
     let p = c.args.place in

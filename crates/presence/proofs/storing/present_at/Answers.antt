@@ -21,4 +21,4 @@ returns-in-Ok-payload g c =
 pub returns-in-Err : goal.returns-in-Err
 returns-in-Err g c =
     let cs = g.D.Device.contents c.args.device.now in
-    sym (ap (present_as c.args.level c.args.payload.now) (not_copied cs c.args.place g.D.Kind.Key.width (g.met.D.Device.held c.args.device.now) c.in-Err.field-0 7168 (lit≤ tt) c.in-Err.ensures.answer))
+    sym (ap (present_as c.args.level c.args.payload.now) (not_copied cs c.args.place g.D.Kind.Key.WIDE (g.met.D.Device.held c.args.device.now) c.in-Err.field-0 7168 (lit≤ tt) c.in-Err.ensures.answer))

@@ -4,4 +4,4 @@ use Rattle.tape.proofs.raw.put_entry.Goals as goal
 
 pub returns : goal.returns
 returns g c =
-    entry-written g.F.Key.width _ _ _ _ _ _ _ (g.met.F.Key.long c.args.fingerprint) (ap (λ w. w + 4) c.width-width.ensures) c.requires.space c.put_head.ensures c.write.ensures.fits c.write.ensures.after c.put_front.ensures
+    entry-written g.F.Key.WIDE _ _ _ _ _ _ _ (g.met.F.Key.long c.args.fingerprint) (ap (λ w. w + 4) c.width-width.ensures) c.requires.space c.put_head.ensures c.write.ensures.fits c.write.ensures.after c.put_front.ensures

@@ -3,4 +3,4 @@ use Rattle.tape.proofs.Seeks.{Looked}
 use Rattle.tape.proofs.walk.first_in.Given as goal
 
 abbrev pub invariant-loop-i : goal.invariant-loop-i
-invariant-loop-i g l = Looked g.F.Key.width l.container l.i l.at l.index (g.F.Key.bytes l.fingerprint) l.bytes (log_of g.F.Key.width l.entries l.bytes)
+invariant-loop-i g l = Looked g.F.Key.WIDE l.container l.i l.at l.index (g.F.Key.bytes l.fingerprint) l.bytes (log_of g.F.Key.WIDE l.entries l.bytes)

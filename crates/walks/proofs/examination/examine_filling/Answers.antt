@@ -7,7 +7,7 @@ use Rattle.walks.proofs.examination.examine_filling.Goals as goal
 
 pub returns-in-Err : goal.returns-in-Err
 returns-in-Err g c =
-    let w = g.D.Kind.Key.width in
+    let w = g.D.Kind.Key.WIDE in
     let cs = g.D.Device.contents c.args.device.now in
     let root = g.D.Kind.Key.bytes c.args.root in
     let slots : ℕ = length c.args.seen.now in

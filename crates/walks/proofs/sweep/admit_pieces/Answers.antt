@@ -29,11 +29,11 @@ loop-index-preserved g c root slots done p r s f e =
     elim c.match-piece_at.branch [
       | in-Some+in_ok-admit_child w ↦ subst After (sym w.table-is)
           (child_in (ground g d) root slots c.args.level c.requires c.args.place done p r c.args.payload.now e c.loop-index.index (keys_of c.loop-index.table) i.0 i.1 w.in-Some.child w.in-Some.ensures w.in_ok-admit_child.field-0 (keys_of w.admit_child.new.table) w.in_ok-admit_child.ensures i.2)
-      | in_default w ↦ absurd (no_piece (ground g d) root slots c.args.level c.requires c.args.place done p r c.args.payload.now e c.loop-index.index (keys_of c.loop-index.table) i.0 i.1 c.width.result c.width.ensures c.loop-index-test.true w.in_default.ensures)
+      | in_default w ↦ absurd (no_piece (ground g d) root slots c.args.level c.requires c.args.place done p r c.args.payload.now e c.loop-index.index (keys_of c.loop-index.table) i.0 i.1 c.width.result c.WIDE.ensures c.loop-index-test.true w.in_default.ensures)
     ]
 
 pub returns : goal.returns
 returns g c root slots done p r s f e =
     let d = c.args.device.now in
     let i = c.loop-index.invariant root slots done p r s f e in
-    (i.0, pieces-all (ground g d) root slots c.args.level c.requires c.args.place done p r c.args.payload.now e c.loop-index.index (keys_of c.loop-index.table) i.0 i.1 c.width.result c.width.ensures c.loop-index-test.false i.2)
+    (i.0, pieces-all (ground g d) root slots c.args.level c.requires c.args.place done p r c.args.payload.now e c.loop-index.index (keys_of c.loop-index.table) i.0 i.1 c.width.result c.WIDE.ensures c.loop-index-test.false i.2)

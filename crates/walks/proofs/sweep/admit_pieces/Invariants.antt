@@ -8,7 +8,7 @@ use Rattle.walks.proofs.sweep.admit_pieces.Given as goal
 abbrev pub invariant-loop-index : goal.invariant-loop-index
 invariant-loop-index g l =
     let b = g.D.Kind.Key.bytes in
-    let w = g.D.Kind.Key.width in
+    let w = g.D.Kind.Key.WIDE in
     let cs = g.D.Device.contents l.device in
     (root : List ℕ) (slots : ℕ) (done : List (List ℕ)) (p : g.row.D-Kind.Denot) (r : Rec) →
     Sweep b w cs root slots l.level done (keys_of l.initial.table) → Parent b cs l.place l.level (keys_of l.initial.table) p r → r.payload ≡ l.payload →

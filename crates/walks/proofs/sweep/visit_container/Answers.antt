@@ -24,7 +24,7 @@ returns-in_default g c done root slots s =
 
 pub returns-in_err-visit_node : goal.returns-in_err-visit_node
 returns-in_err-visit_node g c done root slots s =
-    passed_err g.D.Kind.Key.width (g.D.Device.contents c.args.device.now) root slots _ c.from_residual.result c.in_err-visit_node.field-0.0 c.from_residual.ensures.1
+    passed_err g.D.Kind.Key.WIDE (g.D.Device.contents c.args.device.now) root slots _ c.from_residual.result c.in_err-visit_node.field-0.0 c.from_residual.ensures.1
     (c.in_err-visit_node.ensures _ root slots (c.loop-index.invariant root slots done s))
 
 pub loop-index-preserved : goal.loop-index-preserved

@@ -7,7 +7,7 @@ use Rattle.walks.proofs.sweep.visit_container.Given as goal
 abbrev pub invariant-loop-index : goal.invariant-loop-index
 invariant-loop-index g l =
     let b = g.D.Kind.Key.bytes in
-    let w = g.D.Kind.Key.width in
+    let w = g.D.Kind.Key.WIDE in
     let cs = g.D.Device.contents l.device in
     (root : List ℕ) (slots : ℕ) (done : List (List ℕ)) → Sweep b w cs root slots l.level done (keys_of l.initial.table) →
     Sweep b w cs root slots l.level (map (λ x. x.fingerprint) (take l.index (records_of cs l.container)) ++ done) (keys_of l.table)

@@ -10,7 +10,7 @@ ground g = grounded g.D.Kind.Key g.met.D.Kind.Key.any g.met.D.Kind.Key.back g.D.
 
 pub returns-in_err-visit_container : goal.returns-in_err-visit_container
 returns-in_err-visit_container g c root slots s =
-    passed_err g.D.Kind.Key.width (g.D.Device.contents c.args.device.now) root slots _ c.from_residual.result c.in_err-visit_container.field-0.0 c.from_residual.ensures.1
+    passed_err g.D.Kind.Key.WIDE (g.D.Device.contents c.args.device.now) root slots _ c.from_residual.result c.in_err-visit_container.field-0.0 c.from_residual.ensures.1
     (c.in_err-visit_container.ensures _ root slots (c.loop-container.invariant root slots s))
 
 pub loop-container-preserved : goal.loop-container-preserved

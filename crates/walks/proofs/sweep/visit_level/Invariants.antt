@@ -7,7 +7,7 @@ use Rattle.walks.proofs.sweep.visit_level.Given as goal
 abbrev pub invariant-loop-container : goal.invariant-loop-container
 invariant-loop-container g l =
     let b = g.D.Kind.Key.bytes in
-    let w = g.D.Kind.Key.width in
+    let w = g.D.Kind.Key.WIDE in
     let cs = g.D.Device.contents l.device in
     (root : List ℕ) (slots : ℕ) → Sweep b w cs root slots l.level [] (keys_of l.initial.table) →
     Sweep b w cs root slots l.level (map (λ x. x.fingerprint) (all (take l.container cs))) (keys_of l.table)

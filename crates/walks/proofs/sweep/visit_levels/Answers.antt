@@ -6,9 +6,9 @@ use Rattle.walks.proofs.sweep.visit_levels.Goals as goal
 
 pub returns-in_err-visit_level : goal.returns-in_err-visit_level
 returns-in_err-visit_level g c root slots s =
-    passed_err g.D.Kind.Key.width (g.D.Device.contents c.args.device.now) root slots _ c.from_residual.result c.in_err-visit_level.field-0.0 c.from_residual.ensures.1
+    passed_err g.D.Kind.Key.WIDE (g.D.Device.contents c.args.device.now) root slots _ c.from_residual.result c.in_err-visit_level.field-0.0 c.from_residual.ensures.1
     (c.in_err-visit_level.ensures root slots (c.loop-level.invariant root slots s))
 
 pub returns : goal.returns
 returns g c root slots s =
-    subst (λ (n : ℕ). Sweep g.D.Kind.Key.bytes g.D.Kind.Key.width (g.D.Device.contents c.args.device.now) root slots n [] (keys_of c.loop-level.table)) (omega (arith, c.loop-level-test.false)) (c.loop-level.invariant root slots s)
+    subst (λ (n : ℕ). Sweep g.D.Kind.Key.bytes g.D.Kind.Key.WIDE (g.D.Device.contents c.args.device.now) root slots n [] (keys_of c.loop-level.table)) (omega (arith, c.loop-level-test.false)) (c.loop-level.invariant root slots s)

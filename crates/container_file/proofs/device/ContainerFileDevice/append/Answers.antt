@@ -10,7 +10,7 @@ use Rattle.container_file.proofs.device.ContainerFileDevice.append.Goals as goal
 
 pub returns : goal.returns
 returns g c =
-    let w = g.F.Key.width in
+    let w = g.F.Key.WIDE in
     let s = c.args.self.now in
     let t = c.write_record.new.self in
     let cs = contents_of w s in
@@ -23,7 +23,7 @@ returns g c =
     let count : length (records_of cs c.args.container) < 63 = (let a = ap length rs in omega (arith, room.0)) in
     let bytes : payload_bytes (records_of cs c.args.container) + length r.payload ≤ 7168 = (let a = ap payload_bytes rs in omega (arith, room.1)) in
     let h : Takes cs c.args.container r = record { here = in-range; level = c.if-level-gt6.false; some = c.if-payload-lt1.false; few = c.if-payload-gt1280.false; count = count; bytes = bytes } in
-    let k : c.width.result - 0 ≡ w = (let e = c.width.ensures in omega arith) in
+    let k : c.width.result - 0 ≡ w = (let e = c.WIDE.ensures in omega arith) in
     let name : take (c.width.result - 0) c.write.new.to ≡ r.fingerprint =
     ap (λ n. take n c.write.new.to) k ∙ front-written w c.write.result r.fingerprint (replicate 20 0) c.write.new.to (g.met.F.Key.long c.args.fingerprint) g.met.F.Key.narrow c.write.ensures.fits c.write.ensures.after
     in

@@ -6,5 +6,5 @@ use Rattle.container_file.proofs.device.ContainerFileDevice.erase.Goals as goal
 
 pub returns-then-not-has : goal.returns-then-not-has
 returns-then-not-has g c =
-    let cs = contents_of g.F.Key.width c.args.self.now in
+    let cs = contents_of g.F.Key.WIDE c.args.self.now in
     record { answer = search rules; after = sym (set_past cs c.args.container [] (ltb-false _ _ (sym c.if-not-has.ensures.answer))); untouched = λ _. refl }

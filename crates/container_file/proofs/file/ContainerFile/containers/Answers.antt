@@ -6,6 +6,6 @@ use Rattle.container_file.proofs.file.ContainerFile.containers.Goals as goal
 pub returns-then-self-width : goal.returns-then-self-width
 returns-then-self-width g c =
     let s = c.args.self.now in
-    let w = g.F.Key.width in
-    let e : s.width ≡ w = c.if-self-width.true ∙ c.width.ensures in
+    let w = g.F.Key.WIDE in
+    let e : s.width ≡ w = c.if-self-width.true ∙ c.WIDE.ensures in
     record { count = sym (ap length (held_same w s e) ∙ length-read_file s.width s.count (vec_items s.bytes)); own = λ _. (e, refl) }

@@ -8,7 +8,7 @@ use Rattle.container_file.proofs.file.ContainerFile.fingerprint_at.Goals as goal
 
 pub returns : goal.returns
 returns g c =
-    let w = g.F.Key.width in
+    let w = g.F.Key.WIDE in
     let s = c.args.self.now in
     let at = c.in_ok-at.at in
     let h = c.in_ok-at.ensures in

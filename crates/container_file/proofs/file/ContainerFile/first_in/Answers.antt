@@ -11,7 +11,7 @@ use Rattle.container_file.proofs.file.ContainerFile.first_in.Goals as goal
 
 pub returns-then-same : goal.returns-then-same
 returns-then-same g c =
-    let w = g.F.Key.width in
+    let w = g.F.Key.WIDE in
     let cs = contents_of w c.args.self.now in
     let p : Place = record { container = c.args.container; index = c.loop-index.index } in
     let h = found_there g.F.Key.bytes g.F.Key.key w g.met.F.Key.any cs p c.in-Some.found (held-file w c.args.self.now) c.in-Some.ensures in
@@ -20,14 +20,14 @@ returns-then-same g c =
 
 pub returns-in-None : goal.returns-in-None
 returns-in-None g c =
-    let w = g.F.Key.width in
+    let w = g.F.Key.WIDE in
     let cs = contents_of w c.args.self.now in
     let p : Place = record { container = c.args.container; index = c.loop-index.index } in
     sym (place-all (g.F.Key.bytes c.args.fingerprint) c.args.container c.loop-index.index (records_of cs c.args.container) None (none_found (λ x. g.F.Key.key x.fingerprint) cs p c.in-None.ensures)) ∙ c.loop-index.invariant
 
 pub loop-index-preserved : goal.loop-index-preserved
 loop-index-preserved g c =
-    let w = g.F.Key.width in
+    let w = g.F.Key.WIDE in
     let cs = contents_of w c.args.self.now in
     let p : Place = record { container = c.args.container; index = c.loop-index.index } in
     let h = found_there g.F.Key.bytes g.F.Key.key w g.met.F.Key.any cs p c.in-Some.found (held-file w c.args.self.now) c.in-Some.ensures in
@@ -36,7 +36,7 @@ loop-index-preserved g c =
 
 pub returns : goal.returns
 returns g c =
-    let w = g.F.Key.width in
+    let w = g.F.Key.WIDE in
     let cs = contents_of w c.args.self.now in
     let few = few_records w cs c.args.container (held-file w c.args.self.now) in
     sym (place-all (g.F.Key.bytes c.args.fingerprint) c.args.container c.loop-index.index (records_of cs c.args.container) None (let t = c.loop-index-test.false in omega arith)) ∙ c.loop-index.invariant

@@ -6,9 +6,9 @@ use Rattle.container_file.proofs.file.ContainerFile.over.Given as given
 use Rattle.container_file.proofs.file.ContainerFile.over.Goals as goal
 use Rattle.container_file.proofs.file.ContainerFile.over.Goals.{in-Ok, in-Err, After-width, at-returns}
 
-opened : (g : given.Over) (c : goal.After-width g) → Opened g.F.Key.width c.match-check.count (vec_items c.args.bytes)
+opened : (g : given.Over) (c : goal.After-width g) → Opened g.F.Key.WIDE c.match-check.count (vec_items c.args.bytes)
 opened g c =
-    let w = g.F.Key.width in
+    let w = g.F.Key.WIDE in
     let bs = vec_items c.args.bytes in
     let P : ℕ → Type 0 = λ n. Opened w n bs in
     let narrow = g.met.F.Key.narrow in
@@ -19,12 +19,12 @@ opened g c =
 
 pub invariant_of-result : goal.invariant_of-result
 invariant_of-result g c =
-    let x = subst (λ w. Intact w c.match-check.count (vec_items c.args.bytes)) (sym c.width.ensures) (opened g c).intact in
+    let x = subst (λ w. Intact w c.match-check.count (vec_items c.args.bytes)) (sym c.WIDE.ensures) (opened g c).intact in
     record { few = x.few; narrow = x.narrow; intact = ∣ x ∣₁ }
 
 pub returns : goal.returns
 returns g c =
-    let w = g.F.Key.width in
+    let w = g.F.Key.WIDE in
     let o = opened g (goal.at-returns g c).After-width in
-    let same = held_at w c.width.result c.match-check.count (vec_items c.args.bytes) c.width.ensures in
+    let same = held_at w c.width.result c.match-check.count (vec_items c.args.bytes) c.WIDE.ensures in
     record { bytes = refl; holds = λ cs h e. same ∙ o.holds cs h e; refused = λ none. same ∙ o.refused none }

@@ -14,7 +14,7 @@ returns-in-Ok g c =
     let strip = payload_of (standing cs x) in
     let h = c.in-Ok.ensures in
     record {
-      answer = given_strip g.D.Kind.Key.width s c.args.token space strip c.in-Ok.len c.moved_on.result (h.answer ∙ stands_answer cs x c.requires space) c.moved_on.ensures;
+      answer = given_strip g.D.Kind.Key.WIDE s c.args.token space strip c.in-Ok.len c.moved_on.result (h.answer ∙ stands_answer cs x c.requires space) c.moved_on.ensures;
       buffer = h.buffer ∙ stands-filled cs x c.requires c.args.buffer.now;
     }
 
@@ -27,6 +27,6 @@ returns-in-Err g c =
     let strip = payload_of (standing cs x) in
     let h = c.in-Err.ensures in
     record {
-      answer = short_buffer g.D.Kind.Key.width s c.args.token space strip c.in-Err.refusal (h.answer ∙ stands_answer cs x c.requires space);
+      answer = short_buffer g.D.Kind.Key.WIDE s c.args.token space strip c.in-Err.refusal (h.answer ∙ stands_answer cs x c.requires space);
       buffer = h.buffer ∙ stands-filled cs x c.requires c.args.buffer.now;
     }

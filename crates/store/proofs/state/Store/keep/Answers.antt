@@ -5,7 +5,7 @@ use Rattle.store.proofs.state.Store.keep.Goals as goal
 
 pub returns-in-Err : goal.returns-in-Err
 returns-in-Err g c =
-    let w = g.D.Kind.Key.width in
+    let w = g.D.Kind.Key.WIDE in
     let s = model g.D.Device g.D.Kind.Key.bytes c.args.self.now in
     let name = c.args.name.now in
     let root = g.D.Kind.Key.bytes c.args.root in
@@ -21,11 +21,11 @@ returns-in-Err g c =
 pub examine_tree-requires : goal.examine_tree-requires
 examine_tree-requires g c =
     let s = model g.D.Device g.D.Kind.Key.bytes c.args.self.now in
-    entered_space g.D.Kind.Key.width s c.args.name.now [] (length c.args.table.now) _ c.in-Ok.ensures
+    entered_space g.D.Kind.Key.WIDE s c.args.name.now [] (length c.args.table.now) _ c.in-Ok.ensures
 
 pub returns-in-Ok-examine_tree : goal.returns-in-Ok-examine_tree
 returns-in-Ok-examine_tree g c =
-    let w = g.D.Kind.Key.width in
+    let w = g.D.Kind.Key.WIDE in
     let s = model g.D.Device g.D.Kind.Key.bytes c.args.self.now in
     let name = c.args.name.now in
     let root = g.D.Kind.Key.bytes c.args.root in
@@ -41,7 +41,7 @@ returns-in-Ok-examine_tree g c =
 
 pub returns-in-Err-examine_tree : goal.returns-in-Err-examine_tree
 returns-in-Err-examine_tree g c =
-    let w = g.D.Kind.Key.width in
+    let w = g.D.Kind.Key.WIDE in
     let s = model g.D.Device g.D.Kind.Key.bytes c.args.self.now in
     let name = c.args.name.now in
     let root = g.D.Kind.Key.bytes c.args.root in

@@ -10,7 +10,7 @@ use Rattle.store.proofs.state.Store.next.Goals as goal
 
 pub give-requires : goal.give-requires
 give-requires g c =
-    let w = g.D.Kind.Key.width in
+    let w = g.D.Kind.Key.WIDE in
     let s = model g.D.Device g.D.Kind.Key.bytes c.args.self.now in
     let token = c.args.token in
     let is = sym c.in-Strip.is ∙ passed_value untold (token_tests w s token) _ c.in-Ok.lead c.in-Ok.ensures in
@@ -19,7 +19,7 @@ give-requires g c =
 
 pub returns-in-Err : goal.returns-in-Err
 returns-in-Err g c =
-    let w = g.D.Kind.Key.width in
+    let w = g.D.Kind.Key.WIDE in
     let s = model g.D.Device g.D.Kind.Key.bytes c.args.self.now in
     let token = c.args.token in
     let h = c.in-Err.ensures in
@@ -31,7 +31,7 @@ returns-in-Err g c =
 
 pub returns-in-Nowhere : goal.returns-in-Nowhere
 returns-in-Nowhere g c =
-    let w = g.D.Kind.Key.width in
+    let w = g.D.Kind.Key.WIDE in
     let s = model g.D.Device g.D.Kind.Key.bytes c.args.self.now in
     let h = ap Ok (sym c.in-Nowhere.is) ∙ c.in-Ok.ensures in
     record {
@@ -42,7 +42,7 @@ returns-in-Nowhere g c =
 
 pub returns-in-TheEnd : goal.returns-in-TheEnd
 returns-in-TheEnd g c =
-    let w = g.D.Kind.Key.width in
+    let w = g.D.Kind.Key.WIDE in
     let s = model g.D.Device g.D.Kind.Key.bytes c.args.self.now in
     let h = ap Ok (sym c.in-TheEnd.is) ∙ c.in-Ok.ensures in
     record {
@@ -53,7 +53,7 @@ returns-in-TheEnd g c =
 
 pub returns-in-Strip : goal.returns-in-Strip
 returns-in-Strip g c =
-    let w = g.D.Kind.Key.width in
+    let w = g.D.Kind.Key.WIDE in
     let s = model g.D.Device g.D.Kind.Key.bytes c.args.self.now in
     let h = ap Ok (sym c.in-Strip.is) ∙ c.in-Ok.ensures in
     record {

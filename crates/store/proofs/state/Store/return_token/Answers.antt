@@ -8,7 +8,7 @@ use Rattle.store.proofs.state.Store.return_token.Goals as goal
 
 pub returns-in-Err : goal.returns-in-Err
 returns-in-Err g c =
-    let w = g.D.Kind.Key.width in
+    let w = g.D.Kind.Key.WIDE in
     let s = model g.D.Device g.D.Kind.Key.bytes c.args.self.now in
     let token = c.args.token in
     let h = c.in-Err.ensures in
@@ -19,7 +19,7 @@ returns-in-Err g c =
 
 pub returns-in-Ok : goal.returns-in-Ok
 returns-in-Ok g c =
-    let w = g.D.Kind.Key.width in
+    let w = g.D.Kind.Key.WIDE in
     let s = model g.D.Device g.D.Kind.Key.bytes c.args.self.now in
     let token = c.args.token in
     let h = c.in-Ok.ensures in

@@ -5,4 +5,4 @@ use Rattle.tape.proofs.device.TapeDevice.first_place.Given as goal
 
 abbrev pub invariant-loop-container : goal.invariant-loop-container
 invariant-loop-container g l =
-    place_from (g.F.Key.bytes l.fingerprint) l.container (drop l.container (held_by g.F.Key.width l.self)) ≡ first_place (held_by g.F.Key.width l.self) (g.F.Key.bytes l.fingerprint)
+    place_from (g.F.Key.bytes l.fingerprint) l.container (drop l.container (held_by g.F.Key.WIDE l.self)) ≡ first_place (held_by g.F.Key.WIDE l.self) (g.F.Key.bytes l.fingerprint)

@@ -6,7 +6,7 @@ use Rattle.tape.proofs.device.TapeDevice.payload.Goals as goal
 
 pub returns-then-head-to : goal.returns-then-head-to
 returns-then-head-to g c =
-    let cs = held_by g.F.Key.width c.args.self.now in
+    let cs = held_by g.F.Key.WIDE c.args.self.now in
     let found = c.in_ok-at.ensures in
     let long = c.head_at-head.ensures.len ∙ found_length _ _ _ _ _ _ found c.deref.ensures.value in
     record {
@@ -18,7 +18,7 @@ pub returns : goal.returns
 returns g c =
     let bs = vec_items c.args.self.now.bytes in
     let at = c.in_ok-at.at in
-    let cs = held_by g.F.Key.width c.args.self.now in
+    let cs = held_by g.F.Key.WIDE c.args.self.now in
     let found = c.in_ok-at.ensures in
     let long = c.head_at-head.ensures.len ∙ found_length _ _ _ _ _ _ found c.deref.ensures.value in
     let w = c.width-width.ensures in

@@ -6,7 +6,7 @@ use Rattle.tape.proofs.tape.Tape.find.Given as given
 use Rattle.tape.proofs.tape.Tape.find.Goals as goal
 use Rattle.tape.proofs.tape.Tape.find.Goals.{After-deref}
 
-here : (g : given.Over) (c : goal.After-deref g) → let t = c.args.self.now in Here g.F.Key.width t.width t.containers t.entries c.args.place.container (vec_items t.bytes)
+here : (g : given.Over) (c : goal.After-deref g) → let t = c.args.self.now in Here g.F.Key.WIDE t.width t.containers t.entries c.args.place.container (vec_items t.bytes)
 here g c =
     let a = c.if-place-seen.false in
     let b = c.seen.ensures in
@@ -16,7 +16,7 @@ pub returns-then-place-seen : goal.returns-then-place-seen
 returns-then-place-seen g c =
     let a = c.if-place-seen.true in
     let b = c.seen.ensures in
-    let none = held_past (held_by g.F.Key.width c.args.self.now) c.args.place.container (omega arith) in
+    let none = held_past (held_by g.F.Key.WIDE c.args.self.now) c.args.place.container (omega arith) in
     (c.of.ensures, omega arith)
 
 pub seek-requires : goal.seek-requires

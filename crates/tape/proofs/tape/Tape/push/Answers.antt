@@ -13,7 +13,7 @@ use Rattle.tape.proofs.tape.Tape.push.Goals.{After-deref_mut, After-width}
 abbrev entry : (g : given.Over) → goal.After-deref_mut g → Entry
 entry g c = record { container = c.args.container; stored = record { level = c.args.level; fingerprint = g.F.Key.bytes c.args.fingerprint; payload = c.args.payload.now } }
 
-sound : (g : given.Over) (c : goal.After-deref_mut g) → Sound g.F.Key.width (entry g c)
+sound : (g : given.Over) (c : goal.After-deref_mut g) → Sound g.F.Key.WIDE (entry g c)
 sound g c = record {
   typed = record {
     wide = g.met.F.Key.long c.args.fingerprint;
@@ -23,7 +23,7 @@ sound g c = record {
   few = c.requires.short;
 }
 
-space : (g : given.Over) (c : goal.After-deref_mut g) → c.args.self.now.used + (g.F.Key.width + 4 + length c.args.payload.now) ≤ length (vec_items c.args.self.now.bytes)
+space : (g : given.Over) (c : goal.After-deref_mut g) → c.args.self.now.used + (g.F.Key.WIDE + 4 + length c.args.payload.now) ≤ length (vec_items c.args.self.now.bytes)
 space g c = push_space _ _ _ _ _ _ c.args.self.now.good (entry g c) c.requires.here (sound g c) c.requires.one c.requires.all
 
 pub overflow_cast-container : goal.overflow_cast-container
@@ -47,19 +47,19 @@ overflow_add-self g c =
 pub overflow_add-self-4 : goal.overflow_add-self-4
 overflow_add-self-4 g c =
     let r = space g (goal.at.invariant_of-self g c).After-deref_mut in
-    let w = c.width.ensures in
+    let w = c.WIDE.ensures in
     let l = c.args.self.now.bytes.ok in
     let s = c.args.self.now.bytes.small in
     omega arith
 
 done : (g : given.Over) (c : goal.After-width g) → let t = c.args.self.now in let bs = vec_items (with_items t.bytes c.add_entry.new.bytes) in
     Good t.width t.containers (t.entries + 1) (t.used + (c.width.result + 4 + length c.args.payload.now)) bs
-    × (held_at g.F.Key.width t.width t.containers (t.entries + 1) bs ≡ appended (held_by g.F.Key.width t) c.args.container (entry g (goal.at.invariant_of-self g c).After-deref_mut).stored)
+    × (held_at g.F.Key.WIDE t.width t.containers (t.entries + 1) bs ≡ appended (held_by g.F.Key.WIDE t) c.args.container (entry g (goal.at.invariant_of-self g c).After-deref_mut).stored)
 done g c =
     let d = (goal.at.invariant_of-self g c).After-deref_mut in
     let t = c.args.self.now in
     let kept = c.add_entry.auto.bytes in
-    pushed _ _ _ _ _ _ t.good (entry g d) c.requires.here (sound g d) c.requires.one c.requires.all _ _ _ _ (ap (λ w. t.used + (w + 4 + length c.args.payload.now)) c.width.ensures) c.deref_mut.ensures.value kept (refill t.bytes _ _ c.deref_mut.ensures.value kept) c.add_entry.ensures
+    pushed _ _ _ _ _ _ t.good (entry g d) c.requires.here (sound g d) c.requires.one c.requires.all _ _ _ _ (ap (λ w. t.used + (w + 4 + length c.args.payload.now)) c.WIDE.ensures) c.deref_mut.ensures.value kept (refill t.bytes _ _ c.deref_mut.ensures.value kept) c.add_entry.ensures
 
 pub invariant_of-self : goal.invariant_of-self
 invariant_of-self g c = record { good = ∣ (done g c).0 ∣₁ }

@@ -8,4 +8,4 @@ pub returns-then-self-width : goal.returns-then-self-width
 returns-then-self-width g c =
     let t = c.args.self.now in
     let bs = vec_items t.bytes in
-    sym (ap length (held_same g.F.Key.width t.width t.containers t.entries bs (c.if-self-width.true ∙ c.width.ensures)) ∙ length-gathered t.containers (log_of t.width t.entries bs))
+    sym (ap length (held_same g.F.Key.WIDE t.width t.containers t.entries bs (c.if-self-width.true ∙ c.WIDE.ensures)) ∙ length-gathered t.containers (log_of t.width t.entries bs))

@@ -13,9 +13,9 @@ count_in-requires g c =
 pub returns : goal.returns
 returns g c =
     let t = c.args.self.now in
-    let cs = held_by g.F.Key.width t in
+    let cs = held_by g.F.Key.WIDE t in
     let inside : c.args.container < length cs = (let a = c.if-container-seen.false in let b = c.seen.ensures in omega arith) in
-    let here = held_here g.F.Key.width t.width t.containers t.entries c.args.container (vec_items t.bytes) inside in
+    let here = held_here g.F.Key.WIDE t.width t.containers t.entries c.args.container (vec_items t.bytes) inside in
     let rs = ap (λ bs. records_in c.args.container (log_of t.width t.entries bs)) c.deref.ensures.value ∙ sym here.records in
     let n = c.count_in.ensures.records ∙ ap length rs in
     let m = c.count_in.ensures.payload ∙ ap payload_bytes rs in
