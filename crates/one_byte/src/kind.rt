@@ -11,7 +11,7 @@ use keys::{Fingerprint, Key};
 impl Key for OneByte {
     const WIDE: usize = 1;
 
-    ghost width = { 1 };
+    ghost WIDE = { 1 };
 
     ghost bytes = { low_bytes };
 
@@ -31,9 +31,7 @@ impl Key for OneByte {
       | x ∷ y ∷ zs ↦ λ e h. absurd (omega arith)
     ] };
 
-    fn width() -> usize {
-        Self::WIDE
-    }
+    ghost same = { first_of (Prim.search rules, Prim.grind (arith, Self.row.coded.inj)) };
 
     fn read(from: &[u8]) -> Option<OneByte> {
         match from {
@@ -48,10 +46,6 @@ impl Key for OneByte {
         }
         to[0] = self.value;
         true
-    }
-
-    fn same(self, other: OneByte) -> bool {
-        self.value == other.value
     }
 }
 
