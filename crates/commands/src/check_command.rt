@@ -21,7 +21,7 @@ fn list_record<F: Fingerprint>(
         return Ok(());
     };
     let index = place.index;
-    let hex = Hex::of(fingerprint);
+    let hex = Hex(fingerprint);
     let length = payload.len();
     let named = if is_named(fingerprint, level, payload) {
         "right"

@@ -12,37 +12,24 @@ use records::{Cause, Refusal};
 use std::alloc::{AllocError, Global};
 use std::io;
 use tape::{Tape, tape_size};
+use thiserror::Error;
 
 // Why a copy was not made.
-#[derive(Clone, Copy)]
+#[derive(Clone, Copy, Debug, Error)]
 pub enum Fault {
-    Refused(Refusal),
-    NoMemory,
-}
-
-impl From<AllocError> for Fault {
-    fn from(_error: AllocError) -> Self {
-        Fault::NoMemory
-    }
-}
-
-impl From<Refusal> for Fault {
-    fn from(refusal: Refusal) -> Self {
-        Fault::Refused(refusal)
-    }
+    #[error("{0}")]
+    Refused(#[from] Refusal),
+    #[error("no memory")]
+    NoMemory(#[from] AllocError),
 }
 
 // A tape of free containers.
 fn fresh_tape<F: Fingerprint>(heap: Global, count: usize) -> Result<Tape<F>, Fault>
     ensures { IfOk result (λ t. held_by F.Key.WIDE t ≡ replicate count []) }
 {
-    let Some(size) = tape_size::<F>(count) else {
-        return Err(Fault::Refused(Refusal::from(Cause::Size)));
-    };
-    match Tape::lay_out(vec![in heap; 0u8; size]?, count) {
-        Ok(tape) => Ok(tape),
-        Err((refusal, _)) => Err(Fault::Refused(refusal)),
-    }
+    let size = tape_size::<F>(count).ok_or(Refusal::from(Cause::Size))?;
+    let tape = Tape::lay_out(vec![in heap; 0u8; size]?, count).map_err(|(refusal, _)| refusal)?;
+    Ok(tape)
 }
 
 // A file of free containers.
@@ -50,10 +37,8 @@ fn fresh_file<F: Fingerprint>(heap: Global, count: usize) -> Result<ContainerFil
     ensures { IfOk result (λ s. contents_of F.Key.WIDE s ≡ replicate count []) }
 {
     let size = container_size::<F>().saturating_mul(count);
-    match ContainerFile::lay_out(vec![in heap; 0u8; size]?, count) {
-        Ok(file) => Ok(file),
-        Err((refusal, _)) => Err(Fault::Refused(refusal)),
-    }
+    let file = ContainerFile::lay_out(vec![in heap; 0u8; size]?, count).map_err(|(refusal, _)| refusal)?;
+    Ok(file)
 }
 
 // The copy of a file, by way of a tape: it holds what the file holds.
@@ -87,16 +72,11 @@ fn difference(first: &[u8], second: &[u8]) -> Option<usize>
     ensures { MatchOption result (first.now ≡ second.now) (λ at. (take at first.now ≡ take at second.now) × (first.now ≢ second.now)) }
 {
     let shorter = first.len().min(second.len());
-    for at in 0..shorter {
-        if first[at] != second[at] {
-            return Some(at);
-        }
-    }
-    if first.len() == second.len() {
-        None
-    } else {
-        Some(shorter)
-    }
+    first
+        .iter()
+        .zip(second)
+        .position(|(a, b)| a != b)
+        .or((first.len() != second.len()).then_some(shorter))
 }
 
 // Prints what was moved, and whether the copy is equal byte for byte.

@@ -14,10 +14,7 @@ const USAGE: &str =
 
 // Reads a file, or says which one cannot be read.
 fn read(rt: &HostRuntime, path: &str) -> anyhow::Result<Vec<u8>> {
-    match fs::read(rt, path) {
-        Ok(bytes) => Ok(bytes),
-        Err(_) => Err(anyhow!("cannot read {path}")),
-    }
+    fs::read(rt, path).map_err(|_| anyhow!("cannot read {path}"))
 }
 
 // Copies a file, reports, and writes the copy.
@@ -33,7 +30,7 @@ fn copy(rt: &HostRuntime, from: &str, to: &str) -> anyhow::Result<()> {
             println!(rt; "{refusal}")?;
             Ok(())
         }
-        Err(Fault::NoMemory) => Err(anyhow!("no memory")),
+        Err(fault) => Err(fault.into()),
     }
 }
 

@@ -2,27 +2,16 @@
 use keys::Key;
 use std::fmt;
 
-// The bytes of a key in hexadecimal, in the order in which they are stored.
+// A key that prints as its bytes in hexadecimal, in the order in which they are stored.
 #[derive(Clone, Copy)]
-pub struct Hex {
-    bytes: [u8; 20],
-    width: usize,
-}
+pub struct Hex<K>(pub K);
 
-impl Hex {
-    pub fn of<K: Key>(key: K) -> Self {
-        let mut bytes = [0u8; 20];
-        let _ = key.write(&mut bytes);
-        Hex {
-            bytes,
-            width: K::WIDE,
-        }
-    }
-}
-
-impl fmt::Display for Hex {
+impl<K: Key> fmt::Display for Hex<K> {
     fn fmt<W: fmt::Write>(&self, f: &mut fmt::Formatter<W>) -> fmt::Result {
-        for byte in self.bytes.iter().take(self.width) {
+        // No key is wider, and printing allocates nothing.
+        let mut bytes = [0u8; 20];
+        let _ = self.0.write(&mut bytes);
+        for byte in &bytes[..K::WIDE] {
             write!(f, "{byte:02x}")?;
         }
         Ok(())

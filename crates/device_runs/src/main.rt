@@ -5,9 +5,9 @@ use anyhow::anyhow;
 use container_file::ContainerFile;
 use container_format::container_size;
 use devices::Device;
-use keys::{Fingerprint, Fnv, Key};
+use keys::{Fingerprint, Fnv};
 use one_byte::OneByte;
-use records::{Place, Refusal};
+use records::{Place, Record, Refusal};
 use std::alloc::Global;
 use tape::{Tape, tape_size};
 
@@ -35,10 +35,8 @@ enum Step {
 // The numbers of a line.
 fn numbers(text: &str) -> anyhow::Result<[usize; 4]> {
     let mut all = [0usize; 4];
-    for (i, word) in text.split_whitespace().enumerate() {
-        if i < 4 {
-            all[i] = word.parse::<usize>()?;
-        }
+    for (number, word) in all.iter_mut().zip(text.split_whitespace()) {
+        *number = word.parse::<usize>()?;
     }
     Ok(all)
 }
@@ -85,18 +83,11 @@ fn told(heap: Global, answer: Result<usize, Refusal>) -> anyhow::Result<String> 
     }
 }
 
-fn done(answer: Result<(), Refusal>) -> Result<usize, Refusal> {
-    match answer {
-        Ok(()) => Ok(0),
-        Err(refusal) => Err(refusal),
-    }
-}
-
 // Three numbers as one to print.
 fn shown(level: u8, len: usize, first: u8) -> usize {
-    (1_000_000 * level as usize)
+    (1_000_000 * usize::from(level))
         .saturating_add(len.saturating_mul(1000))
-        .saturating_add(first as usize)
+        .saturating_add(usize::from(first))
 }
 
 // A record's level, length and first byte as one number, or the refusal.
@@ -105,18 +96,16 @@ fn record<D: Device>(device: &D, place: Place) -> Result<usize, Refusal> {
     let level = device.level(place)?;
     let len = device.payload(place, &mut buffer)?;
     let same = device.payload_len(place)?;
-    let right = device
-        .fingerprint(place)?
-        .same(D::Kind::of(level, &buffer[0..len.min(1280)]));
+    let right = device.fingerprint(place)? == D::Kind::of(level, &buffer[..len.min(1280)]);
     let sum = shown(level, len.min(1280), buffer[0]);
     if right && same == len { Ok(sum) } else { Ok(0) }
 }
 
-fn found(place: Option<Place>) -> Result<usize, Refusal> {
-    match place {
-        Some(place) => Ok(100 + 100 * place.container.min(99) + place.index.min(99)),
-        None => Ok(0),
-    }
+// A place as one number; 0 for none.
+fn found(place: Option<Place>) -> usize {
+    place.map_or(0, |place| {
+        100 + 100 * place.container.min(99) + place.index.min(99)
+    })
 }
 
 // What a device answers to a line.
@@ -129,10 +118,10 @@ fn answer<D: Device>(heap: Global, device: &mut D, step: Step) -> anyhow::Result
             fill,
         } => {
             let payload = vec![in heap; fill; len]?;
-            let name = D::Kind::of(level, &payload);
-            told(heap, done(device.append(container, level, name, &payload)))
+            let added = Record::of(level, &payload);
+            told(heap, device.append(container, added).map(|()| 0))
         }
-        Step::Erase(container) => told(heap, done(device.erase(container))),
+        Step::Erase(container) => told(heap, device.erase(container).map(|()| 0)),
         Step::Container(container) => {
             let records = told(heap, device.records(container))?;
             let bytes = told(heap, device.payload_bytes(container))?;
@@ -141,10 +130,7 @@ fn answer<D: Device>(heap: Global, device: &mut D, step: Step) -> anyhow::Result
         Step::Record(place) => told(heap, record(device, place)),
         Step::Find { level, len, fill } => {
             let payload = vec![in heap; fill; len]?;
-            told(
-                heap,
-                found(device.first_place(D::Kind::of(level, &payload))),
-            )
+            told(heap, Ok(found(device.first_place(D::Kind::of(level, &payload)))))
         }
     }
 }

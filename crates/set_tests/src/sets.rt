@@ -7,8 +7,8 @@ use live::{LiveSet, OneOf};
 use slots::Slot;
 use std::test::Fail;
 
-const fn fnv(number: u64) -> Fnv {
-    Fnv { number }
+fn fnv(number: u64) -> Fnv {
+    Fnv::from(number)
 }
 
 // Learns the keys, and writes the answers as binary digits, the first key's first.

@@ -6,8 +6,8 @@ const fn pair(level: u8, container: u8) -> Pair {
     Pair { level, container }
 }
 
-const fn fnv(number: u64) -> Fnv {
-    Fnv { number }
+fn fnv(number: u64) -> Fnv {
+    Fnv::from(number)
 }
 
 // Inserts the keys, and writes the answers as hex digits: the place where a key was found, 8 more where it was put, f for full.
@@ -122,13 +122,9 @@ fn damaged(digit: u32) -> Slot<Pair> {
 // A plain walk of its own, from a home that is told.
 fn plain_walk(slots: &[Slot<Pair>; 3], home: usize, key: Pair) -> bool {
     for step in 0..3usize {
-        match slots[(home % 3 + step) % 3].key() {
-            None => return false,
-            Some(other) => {
-                if other.level == key.level && other.container == key.container {
-                    return true;
-                }
-            }
+        let met = slots[(home % 3 + step) % 3].key();
+        if met.is_none_or(|other| other == key) {
+            return met.is_some();
         }
     }
     false
