@@ -46,11 +46,11 @@ impl Key for Pair {
 
     ghost key = { pair_of };
 
-    ghost narrow = { first_of (Prim.search rules, Prim.grind (arith, Self.row.coded.inj)) };
+    ghost narrow = { Prim.search rules };
 
-    ghost long = { first_of (Prim.search rules, Prim.grind (arith, Self.row.coded.inj)) };
+    ghost long = { Prim.search rules };
 
-    ghost octets = { first_of (Prim.search rules, Prim.grind (arith, Self.row.coded.inj)) };
+    ghost octets = { Prim.search rules };
 
     ghost back = { λ k. pair_path _ _ (mod-eq_of_lt k.fits.0) (mod-eq_of_lt k.fits.1) };
 
@@ -61,7 +61,7 @@ impl Key for Pair {
       | x ∷ y ∷ z ∷ zs ↦ λ e h. absurd (omega arith)
     ] };
 
-    ghost same = { first_of (Prim.search rules, Prim.grind (arith, Self.row.coded.inj)) };
+    ghost same = { Prim.search rules };
 
     fn read(from: &[u8]) -> Option<Pair> {
         let [level, container, ..] = from else {
@@ -101,11 +101,11 @@ impl Key for Fnv {
 
     ghost key = { fnv_of };
 
-    ghost narrow = { first_of (Prim.search rules, Prim.grind (arith, Self.row.coded.inj)) };
+    ghost narrow = { Prim.search rules };
 
-    ghost long = { first_of (Prim.search rules, Prim.grind (arith, Self.row.coded.inj)) };
+    ghost long = { Prim.search rules };
 
-    ghost octets = { first_of (Prim.search rules, Prim.grind (arith, Self.row.coded.inj)) };
+    ghost octets = { Prim.search rules };
 
     ghost back = { λ k. fnv_path _ _ (ap (λ n. n % 2 ^ 64) (number-little 8 k.number k.fits) ∙ mod-eq_of_lt k.fits) };
 
@@ -139,7 +139,7 @@ impl Key for Fnv {
 impl Fingerprint for Fnv {
     ghost naming = { fnv_naming };
 
-    ghost some = { first_of (Prim.search rules, Prim.grind (arith, Self.row.coded.inj)) };
+    ghost some = { Prim.search rules };
 
     fn of(level: u8, payload: &[u8]) -> Fnv {
         Fnv::from(hash_behind(level, payload))

@@ -17,11 +17,11 @@ impl Key for OneByte {
 
     ghost key = { low_of };
 
-    ghost narrow = { first_of (Prim.search rules, Prim.grind (arith, Self.row.coded.inj)) };
+    ghost narrow = { Prim.search rules };
 
-    ghost long = { first_of (Prim.search rules, Prim.grind (arith, Self.row.coded.inj)) };
+    ghost long = { Prim.search rules };
 
-    ghost octets = { first_of (Prim.search rules, Prim.grind (arith, Self.row.coded.inj)) };
+    ghost octets = { Prim.search rules };
 
     ghost back = { λ k. low_value k };
 
@@ -31,7 +31,7 @@ impl Key for OneByte {
       | x ∷ y ∷ zs ↦ λ e h. absurd (omega arith)
     ] };
 
-    ghost same = { first_of (Prim.search rules, Prim.grind (arith, Self.row.coded.inj)) };
+    ghost same = { Prim.search rules };
 
     fn read(from: &[u8]) -> Option<OneByte> {
         match from {
@@ -52,7 +52,7 @@ impl Key for OneByte {
 impl Fingerprint for OneByte {
     ghost naming = { low_naming };
 
-    ghost some = { first_of (Prim.search rules, Prim.grind (arith, Self.row.coded.inj)) };
+    ghost some = { Prim.search rules };
 
     fn of(level: u8, payload: &[u8]) -> OneByte {
         OneByte {
