@@ -1,29 +1,19 @@
 -- Bits that are set stay set, and cleared bytes have none.
-use Rattle.std.proofs.Common.{◌≡◌, ℕ, zero, suc, ◌+◌, ◌*◌, ◌/◌, ◌%◌, ◌^◌, ◌<◌, ◌≤◌, min, Bool, true, false, cond, ◌||◌, eqb, ◌⊎◌, List, ◌++◌, length, get_or, drop, replicate, sym, refl, ap, ◌∙◌, subst, inl, inr, add-one, arith, pow_pos}
-use native.Mathlib.Nat.{div_self, zero-div}
-use lib.Bits.{bit_or, or_shr, or_mod, or_comm}
+use Rattle.std.proofs.Common.{◌≡◌, ℕ, zero, suc, ◌*◌, ◌/◌, ◌%◌, ◌^◌, ◌<◌, ◌≤◌, min, Bool, true, false, cond, ◌&&◌, ◌||◌, eqb, ◌⊎◌, List, ◌++◌, length, get_or, drop, replicate, sym, refl, ap, ◌∙◌, subst, inl, inr, arith}
+use native.Mathlib.Nat.{zero-div}
+use lib.Bits.{bit_or, or_comm}
+use Rattle.std.proofs.lemmas.Nat.Bits.{bit_at-lt, bit_at_or, bit_at-pow_same}
+use Rattle.std.specs.Int.{bit_at}
 use Rattle.std.proofs.lemmas.List.{get_or-set_same, get_or-set_other, length-set, length-replicate, length-append, length-drop, get_or_append_left, get_or-replicate, drop-set-lt}
 use Rattle.std.proofs.lemmas.Nat.{mod_below}
 use Rattle.std.proofs.lemmas.Bool.{cases_eq, eqb-true, eqb-false, eq-eqb, ne_eqb, and_parts, and_from, and_left, and_right, or_from}
+use Rattle.std.specs.List.{list_all, range_with_len}
 use Rattle.keys.specs.Encodings.{home_number}
 use Rattle.bloom.specs.Bits.{is_set, with_bit, with_bits, all_set, used, place, all_four, with_four, cleared}
 
-one_or : (x y : ℕ) → x ≡ 1 → (y ≡ 0) ⊎ (y ≡ 1) → bit_or x y ≡ 1
-one_or x y e (inl f) = rw (e, f)
-one_or x y e (inr f) = rw (e, f)
-
-bit_cases : (n : ℕ) → (n % 2 ≡ 0) ⊎ (n % 2 ≡ 1)
-bit_cases n = parts (n % 2) (omega arith)
-  where
-    parts : (r : ℕ) → r < 2 → (r ≡ 0) ⊎ (r ≡ 1)
-    parts zero h = inl refl
-    parts (suc zero) h = inr refl
-    parts (suc (suc r)) h = absurd (omega arith)
-
 -- a bit of the first stands in the join
-or_bit : (a b k : ℕ) → a / 2 ^ k % 2 ≡ 1 → bit_or a b / 2 ^ k % 2 ≡ 1
-or_bit a b k e =
-    ap (λ n. n % 2) (or_shr a b k) ∙ or_mod (a / 2 ^ k) (b / 2 ^ k) 1 ∙ one_or (a / 2 ^ k % 2) (b / 2 ^ k % 2) e (bit_cases (b / 2 ^ k))
+or_bit : (a b k : ℕ) → bit_at a k ≡ 1 → bit_at (bit_or a b) k ≡ 1
+or_bit a b k e = omega (arith, bit_at_or a b k, bit_at-lt b k)
 
 same_length : (f : ℕ → ℕ) (n : ℕ) (bs : List ℕ) → length (with_bits f n bs) ≡ length bs
 same_length f zero bs = refl
@@ -39,15 +29,12 @@ keeps_by bs p q lt (inr n) h = ap (λ n. n / 2 ^ (q % 8) % 2) (get_or-set_other 
 keeps : (bs : List ℕ) (p q : ℕ) → p / 8 < length bs → is_set bs q ≡ true → is_set (with_bit bs p) q ≡ true
 keeps bs p q lt h = eq-eqb _ 1 (keeps_by bs p q lt (cases_eq (q / 8) (p / 8)) (eqb-true _ 1 h))
 
-own_bit : (k : ℕ) → 2 ^ k / 2 ^ k % 2 ≡ 1
-own_bit k = ap (λ n. n % 2) (div_self (pow_pos k))
-
 here : (bs : List ℕ) (p : ℕ) → p / 8 < length bs → is_set (with_bit bs p) p ≡ true
 here bs p lt =
     let k = p % 8 in
     let a = get_or bs (p / 8) 0 in
     let byte : get_or (with_bit bs p) (p / 8) 0 ≡ bit_or (2 ^ k) a = get_or-set_same bs (p / 8) _ 0 lt ∙ or_comm a (2 ^ k) in
-    eq-eqb _ 1 (ap (λ n. n / 2 ^ k % 2) byte ∙ or_bit (2 ^ k) a k (own_bit k))
+    eq-eqb _ 1 (ap (λ n. n / 2 ^ k % 2) byte ∙ or_bit (2 ^ k) a k (bit_at-pow_same k))
 
 all_step : (g : ℕ → ℕ) (m : ℕ) (xs : List ℕ) (p : ℕ) → p / 8 < length xs → all_set g m xs ≡ true → all_set g m (with_bit xs p) ≡ true
 all_step g zero xs p lt h = refl
@@ -67,9 +54,6 @@ all_set_lem f bs within (suc n) =
     let lt : f n / 8 < length (with_bits f n bs) = rw (same_length f n bs) (within n) in
     and_from _ _ (all_step f n (with_bits f n bs) (f n) lt (all_set_lem f bs within n)) (here (with_bits f n bs) (f n) lt)
 
-pub all_more : (f : ℕ → ℕ) (s p : ℕ) (bs : List ℕ) → all_set f s bs ≡ true → p ≡ f s → is_set bs p ≡ true → all_set f (s + 1) bs ≡ true
-all_more f s p bs h e i = rw add-one (and_from _ _ h (subst (λ (q : ℕ). is_set bs q ≡ true) e i))
-
 less_by : (f : ℕ → ℕ) (n s : ℕ) (bs : List ℕ) → (s < n → all_set f n bs ≡ false) → s < suc n → is_set bs (f s) ≡ false → (s ≡ n) ⊎ (s ≡ n → ⊥) → all_set f (suc n) bs ≡ false
 less_by f n s bs ih lt i (inl e) = and_right _ _ (subst (λ (q : ℕ). is_set bs (f q) ≡ false) e i)
 less_by f n s bs ih lt i (inr d) = and_left _ _ (ih (omega arith))
@@ -78,8 +62,16 @@ pub all_less : (f : ℕ → ℕ) (n s : ℕ) (bs : List ℕ) → s < n → is_se
 all_less f zero s bs lt i = absurd (omega arith)
 all_less f (suc n) s bs lt i = less_by f n s bs (λ h. all_less f n s bs h i) lt i (cases_eq s n)
 
-pub with_more_lem : (f : ℕ → ℕ) (s p : ℕ) (bs xs ys : List ℕ) → xs ≡ with_bits f s bs → ys ≡ with_bit xs p → p ≡ f s → ys ≡ with_bits f (s + 1) bs
-with_more_lem f s p bs xs ys h e q = rw add-one (e ∙ ap (λ zs. with_bit zs p) h ∙ ap (λ r. with_bit (with_bits f s bs) r) q)
+-- the tests of a key's four bits, first to last
+four_by : (a b c d : Bool) → (a && (b && (c && (d && true)))) ≡ (true && a && b && c && d)
+four_by true true true true = refl
+four_by true true true false = refl
+four_by true true false d = refl
+four_by true false c d = refl
+four_by false b c d = refl
+
+pub four_tests : (f : ℕ → ℕ) (bs : List ℕ) → list_all (λ s. is_set bs (f s)) (range_with_len 0 4) ≡ all_set f 4 bs
+four_tests f bs = four_by (is_set bs (f 0)) (is_set bs (f 1)) (is_set bs (f 2)) (is_set bs (f 3))
 
 pub bits_say : (key bs : List ℕ) (L : ℕ) (v : Bool) → L ≡ used bs → (L ≡ 0 → ⊥) → v ≡ all_set (place key L) 4 bs → v ≡ all_four key bs
 bits_say key bs L v e n h =

@@ -1,5 +1,5 @@
 // A key's four bits among the bytes of a filter.
-ghost use Rattle.std.specs.Prelude.{◌≡◌, ◌/◌, ◌<◌, ◌≤◌, ◌++◌, length, replicate};
+ghost use Rattle.std.specs.Prelude.{◌≡◌, ◌/◌, ◌<◌, ◌≤◌, length};
 ghost use Rattle.bloom.specs.Bits.{is_set, with_bit, used, place, cleared, all_four, with_four};
 
 use keys::{Key, home};
@@ -10,6 +10,7 @@ pub const MOST_BYTES: usize = 65536;
 // How many bits a key has.
 const BITS: u8 = 4;
 
+#[tactic(auto, unfolding(crate::specs::Bits::used))]
 // How many of the bytes serve.
 fn used_bytes(bytes: &[u8]) -> usize
     ensures value { result ≡ used bytes.now }
@@ -18,6 +19,7 @@ fn used_bytes(bytes: &[u8]) -> usize
     bytes.len().min(MOST_BYTES)
 }
 
+#[tactic(auto, unfolding(crate::specs::Bits::place))]
 // The place of the key's bit under this seed, over so many bytes.
 fn bit_place<K: Key>(key: K, long: usize, seed: u8) -> usize
     requires { (0 < long) × (long ≤ 65536) }
@@ -27,19 +29,21 @@ fn bit_place<K: Key>(key: K, long: usize, seed: u8) -> usize
     (home(key, seed) % (8 * long as u64)) as usize
 }
 
-// Whether the bit at this place is set.
-fn has_bit(bytes: &[u8], place: usize) -> bool
-    requires { place / 8 < length bytes.now }
-    ensures { result ≡ is_set bytes.now place }
+// Whether the key's bit under this seed is set, over so many of the bytes.
+fn has_bit<K: Key>(bytes: &[u8], key: K, long: usize, seed: u8) -> bool
+    requires { (0 < long) × (long ≤ 65536) × (long ≤ length bytes.now) }
+    ensures { result ≡ is_set bytes.now (place (K.Key.bytes key) long seed) }
 {
+    let place = bit_place(key, long, seed);
     (bytes[place / 8] >> (place % 8)) % 2 == 1
 }
 
-// Sets the bit at this place.
-fn set_bit(bytes: &mut [u8], place: usize)
-    requires { place / 8 < length bytes.old }
-    ensures { bytes.new ≡ with_bit bytes.old place }
+// Sets the key's bit under this seed, over so many of the bytes.
+fn set_bit<K: Key>(bytes: &mut [u8], key: K, long: usize, seed: u8)
+    requires { (0 < long) × (long ≤ 65536) × (long ≤ length bytes.old) }
+    ensures { bytes.new ≡ with_bit bytes.old (place (K.Key.bytes key) long seed) }
 {
+    let place = bit_place(key, long, seed);
     bytes[place / 8] |= 1 << (place % 8);
 }
 
@@ -48,27 +52,18 @@ pub(crate) fn has_bits<K: Key>(bytes: &[u8], key: K) -> bool
     ensures { result ≡ all_four (K.Key.bytes key) bytes.now }
 {
     let long = used_bytes(bytes);
-    if long == 0 {
-        return true;
-    }
-    for seed in 0..BITS {
-        if !has_bit(bytes, bit_place(key, long, seed)) {
-            return false;
-        }
-    }
-    true
+    long == 0 || (0..BITS).all(|seed| has_bit(bytes, key, long, seed))
 }
 
-// Sets the key's four bits; over no bytes, nothing.
+// Sets the key's four bits; over no bytes, nothing. It stays a loop: of what a closure in for_each changes nothing is known.
 pub(crate) fn set_bits<K: Key>(bytes: &mut [u8], key: K)
     ensures { bytes.new ≡ with_four (K.Key.bytes key) bytes.old }
 {
     let long = used_bytes(bytes);
-    if long == 0 {
-        return;
-    }
-    for nth in 0..BITS {
-        set_bit(bytes, bit_place(key, long, nth));
+    if long > 0 {
+        for seed in 0..BITS {
+            set_bit(bytes, key, long, seed);
+        }
     }
 }
 
@@ -77,7 +72,5 @@ pub(crate) fn clear_bits(bytes: &mut [u8])
     ensures { bytes.new ≡ cleared bytes.old }
 {
     let long = used_bytes(bytes);
-    for i in 0..long {
-        bytes[i] = 0;
-    }
+    bytes[..long].fill(0);
 }

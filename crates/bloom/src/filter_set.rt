@@ -26,8 +26,7 @@ impl BloomFilter {
     pub fn into_bytes(self) -> Vec<u8>
         ensures { result ≡ self.bytes }
     {
-        let BloomFilter { bytes, intake: _ } = self;
-        bytes
+        self.bytes
     }
 }
 

@@ -1,7 +1,7 @@
 -- The turns of learning a list of keys and of marking one, in an exact table.
-use Rattle.std.proofs.Common.{◌≡◌, ℕ, ◌+◌, ◌<◌, ◌≤◌, min, Bool, true, false, not, ◌&&◌, ◌||◌, eqb, List, [], ◌∷◌, ◌++◌, length, get_or, take, sym, refl, ap, ◌∙◌, arith}
+use Rattle.std.proofs.Common.{◌≡◌, ℕ, ◌+◌, ◌<◌, ◌≤◌, min, Bool, true, false, ◌&&◌, ◌||◌, eqb, List, [], ◌∷◌, ◌++◌, length, get_or, take, sym, refl, ap, ◌∙◌, arith}
 use Rattle.std.proofs.lemmas.List.{take_more, take_all, get_or-take, length-take}
-use Rattle.std.proofs.lemmas.Bool.{eqb-true, eqb-false, or_parts}
+use Rattle.std.proofs.lemmas.Bool.{not-true, not-false, eqb-true, eqb-false, or_parts}
 use Rattle.keys.specs.Octets.{same_bytes}
 use Rattle.keys.specs.declared.key.Key.{Ghosts}
 use Rattle.keys.specs.Little.{same_equal}
@@ -11,7 +11,7 @@ use Rattle.live.specs.Meaning.{Started, Learned, Sealed, Noted}
 use Rattle.exact.specs.Exact.{held_by, exact_meaning, ExactStart, ExactLearn, ExactSeal, ExactMark}
 use Rattle.exact.specs.Whole.{Taught, Marked}
 use Rattle.exact.specs.declared.table.ExactTable.{ExactTable}
-use Rattle.live.proofs.Lending.{differ, not_from}
+use Rattle.slots.proofs.Walking.{or_swap}
 
 -- after i of the keys, in a table of n slots
 pub record Teaching {K : Type 0} {g : Ghosts K} (b : K → List ℕ) (n : ℕ) (ks : List K) (i : ℕ) (t : ExactTable K g) : Type 0 where
@@ -28,11 +28,6 @@ pub record MarkingOn {K : Type 0} {g : Ghosts K} (b : K → List ℕ) (s : Exact
   pub same : held_by t ≡ held_by s
   pub exact : (x : K) → (exact_meaning b).says t x ≡ (listed b (take i ks) x && (exact_meaning b).covers s x)
 
-or_swap : (s t h : Bool) → (s || (t || h)) ≡ (t || (s || h))
-or_swap true true h = refl
-or_swap true false h = refl
-or_swap false t h = refl
-
 -- a mark on one key more, which is x or is not
 mark_more : (s l c d : Bool) → (s ≡ true → d ≡ c) → ((l && c) || (s && d)) ≡ ((s || l) && c)
 mark_more true true true d e = refl
@@ -41,14 +36,6 @@ mark_more true false c d e = e refl
 mark_more false true true d e = refl
 mark_more false true false d e = refl
 mark_more false false c d e = refl
-
-not_forth : (v : Bool) → false ≡ not v → v ≡ true
-not_forth true e = refl
-not_forth false e = differ (sym e)
-
-or_rest : (s e : Bool) → s ≡ false → (s || e) ≡ true → e ≡ true
-or_rest true e f h = differ f
-or_rest false e f h = h
 
 module _ {K : Type 0} (b : K → List ℕ) where
   listed_push : (ks : List K) (k x : K) → listed b (ks ++ k ∷ []) x ≡ (same_bytes (b k) (b x) || listed b ks x)
@@ -65,7 +52,7 @@ module _ {K : Type 0} {g : Ghosts K} (b : K → List ℕ) where
 
   pub teach_more : (n : ℕ) (ks : List K) (i : ℕ) (k : K) (r : Bool) (s t : ExactTable K g) → i < length ks → k ≡ get_or ks i k → Learned (exact_meaning b) s k r t → ExactLearn b s k r t → Teaching b n ks i s → Teaching b n ks (i + 1) t
   teach_more n ks i k true s t lt at e own h =
-      let some = or_parts s.intake.sealed (eqb s.intake.count ((exact_meaning b).capacity s)) (not_from _ e.answer) in
+      let some = or_parts s.intake.sealed (eqb s.intake.count ((exact_meaning b).capacity s)) (not-true _ (sym e.answer)) in
       let differs = eqb-false s.intake.count ((exact_meaning b).capacity s) some.1 in
       let space : i < n = omega (arith, h.count, h.capacity, differs) in
       let lt' : i < length (take n ks) = omega (arith, length-take n ks) in
@@ -79,7 +66,7 @@ module _ {K : Type 0} {g : Ghosts K} (b : K → List ℕ) where
       }
   teach_more n ks i k false s t lt at e own h =
       let same = e.refused refl in
-      let full = or_rest s.intake.sealed (eqb s.intake.count ((exact_meaning b).capacity s)) h.sealed (not_forth _ e.answer) in
+      let full = rw h.sealed at (not-false _ (sym e.answer)) in
       let all = eqb-true s.intake.count ((exact_meaning b).capacity s) full in
       let past : n ≤ i = omega (arith, h.count, h.capacity) in
       let short : length (take n ks) ≤ i = omega (arith, length-take n ks) in

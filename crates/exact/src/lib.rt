@@ -1,7 +1,6 @@
 // The exact table: a live set that says yes to exactly the keys learned and marked.
 #![tactic(auto)]
 
-mod owned;
 pub mod remember;
 pub mod table;
 pub mod table_set;

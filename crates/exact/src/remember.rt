@@ -1,5 +1,5 @@
 // A whole use of an exact table: it covers exactly the keys learned, and says yes to exactly those of them marked.
-ghost use Rattle.std.specs.Prelude.{◌≡◌, ℕ, ◌&&◌, length, take};
+ghost use Rattle.std.specs.Prelude.{◌≡◌, ◌&&◌, length, take};
 ghost use Rattle.slots.specs.Tables.{listed};
 ghost use Rattle.exact.specs.Exact.{exact_meaning};
 ghost use Rattle.exact.specs.Whole.{Taught, Marked};

@@ -3,7 +3,6 @@ ghost use Rattle.std.specs.Prelude.{◌≡◌, false, length};
 ghost use Rattle.live.specs.Meaning.{Started, Learned, Sealed, Noted};
 ghost use Rattle.exact.specs.Exact.{exact_meaning, ExactStart, ExactLearn, ExactSeal, ExactMark};
 
-use crate::owned::{empty_all, mark_in, put_in, unmark_all};
 use crate::table::ExactTable;
 use keys::Key;
 use live::{Intake, LiveSet};
@@ -11,14 +10,13 @@ use slots::Slot;
 
 impl<K: Key> ExactTable<K> {
     // A table that has learned nothing, over these slots.
-    pub fn over(slots: Vec<Slot<K>>) -> Self
+    pub fn over(mut slots: Vec<Slot<K>>) -> Self
         ensures own { ExactStart K.bytes result }
         ensures capacity { (exact_meaning K.bytes).capacity result ≡ length slots.items }
         ensures count { (exact_meaning K.bytes).count result ≡ 0 }
         ensures sealed { (exact_meaning K.bytes).sealed result ≡ false }
     {
-        let mut slots = slots;
-        empty_all(&mut slots);
+        slots::empty(&mut slots);
         let intake = Intake::of(slots.len());
         ExactTable { slots, intake }
     }
@@ -27,8 +25,7 @@ impl<K: Key> ExactTable<K> {
     pub fn into_slots(self) -> Vec<Slot<K>>
         ensures { result ≡ self.slots }
     {
-        let ExactTable { slots, intake: _ } = self;
-        slots
+        self.slots
     }
 }
 
@@ -43,7 +40,7 @@ impl<K: Key> LiveSet<K> for ExactTable<K> {
         ensures effect { Started (exact_meaning K.bytes) self.old self.new }
         ensures own { ExactStart K.bytes self.new }
     {
-        empty_all(&mut self.slots);
+        slots::empty(&mut self.slots);
         self.intake.start();
     }
 
@@ -54,7 +51,7 @@ impl<K: Key> LiveSet<K> for ExactTable<K> {
         if !self.intake.learn() {
             return false;
         }
-        let _ = put_in(&mut self.slots, key);
+        slots::insert(&mut self.slots, key);
         true
     }
 
@@ -62,7 +59,7 @@ impl<K: Key> LiveSet<K> for ExactTable<K> {
         ensures effect { Sealed (exact_meaning K.bytes) self.old self.new }
         ensures own { ExactSeal K.bytes self.old self.new }
     {
-        unmark_all(&mut self.slots);
+        slots::unmark(&mut self.slots);
         self.intake.seal();
     }
 
@@ -71,7 +68,7 @@ impl<K: Key> LiveSet<K> for ExactTable<K> {
         ensures own { ExactMark K.bytes self.old key self.new }
     {
         if self.intake.is_sealed() {
-            mark_in(&mut self.slots, key);
+            slots::mark_key(&mut self.slots, key);
         }
     }
 

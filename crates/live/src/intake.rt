@@ -1,5 +1,6 @@
 // What every live set counts: how many keys it has learned since it was started, of how many, and whether it is sealed.
 ghost use Rattle.std.specs.Prelude.{◌≡◌, ◌+◌, ◌≤◌, true, false, not, ◌||◌, if◌then◌else◌, ◌==◌};
+ghost use Rattle.live.specs.Intakes.{none_within};
 
 #[derive(Clone, Copy)]
 pub struct Intake {
@@ -13,9 +14,7 @@ pub struct Intake {
 impl Intake {
     // Nothing learned yet, of so many.
     pub fn of(capacity: usize) -> Self
-        ensures count { result.count ≡ 0 }
-        ensures capacity { result.capacity ≡ capacity }
-        ensures sealed { result.sealed ≡ false }
+        ensures { result ≡ record { count = 0; capacity = capacity; sealed = false; space = none_within capacity } }
     {
         Intake {
             count: 0,
@@ -40,12 +39,9 @@ impl Intake {
 
     // Begins anew.
     pub fn start(&mut self)
-        ensures count { self.new.count ≡ 0 }
-        ensures capacity { self.new.capacity ≡ self.old.capacity }
-        ensures sealed { self.new.sealed ≡ false }
+        ensures { self.new ≡ record self.old { count = 0; sealed = false; space = none_within self.old.capacity } }
     {
-        self.count = 0;
-        self.sealed = false;
+        *self = Intake::of(self.capacity);
     }
 
     // Counts one key more, unless it is sealed or has learned as many as it can.
@@ -64,9 +60,7 @@ impl Intake {
 
     // Ends learning.
     pub fn seal(&mut self)
-        ensures count { self.new.count ≡ self.old.count }
-        ensures capacity { self.new.capacity ≡ self.old.capacity }
-        ensures sealed { self.new.sealed ≡ true }
+        ensures { self.new ≡ record self.old { sealed = true } }
     {
         self.sealed = true;
     }

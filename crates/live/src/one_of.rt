@@ -10,6 +10,7 @@ pub enum OneOf<X, Y> {
     Second(Y),
 }
 
+// The matches stay: one function for both arms would have to be generic in the set that it is called with, which no closure is.
 impl<K: Key, X: LiveSet<K>, Y: LiveSet<K>> LiveSet<K> for OneOf<X, Y> {
     ghost meaning = { one_of_meaning X.LiveSet.meaning Y.LiveSet.meaning };
 

@@ -1,6 +1,7 @@
 -- Marks on the keys of slots: taken off, and one more.
-use Rattle.std.proofs.Common.{◌≡◌, ℕ, zero, suc, ◌<◌, Bool, true, false, ◌&&◌, ◌||◌, ◌⊎◌, List, [], ◌∷◌, length, get_or, set, Some, None, Option, sym, refl, ap, ◌∙◌, subst, inl, inr, arith}
+use Rattle.std.proofs.Common.{◌≡◌, ℕ, zero, suc, ◌<◌, Bool, true, false, ◌&&◌, ◌||◌, ◌⊎◌, List, [], ◌∷◌, length, get_or, set, Some, None, Option, sym, refl, ap, ◌∙◌, subst, inl, inr}
 use Rattle.std.proofs.lemmas.List.{get_or-set_same, get_or-set_other}
+use Rattle.std.proofs.Math.Bool.{or-true, or-false, and-false}
 use Rattle.std.proofs.lemmas.Bool.{cases_eq}
 use Rattle.keys.specs.Octets.{same_bytes}
 use Rattle.keys.specs.Little.{same_self, same_equal}
@@ -10,8 +11,8 @@ use Rattle.slots.specs.declared.probe.Probe.{Probe}
 use Rattle.slots.specs.declared.probe.Probe.TheVariants.{Found, Free, Full}
 use Rattle.slots.specs.Walks.{keys_of, probed, reached, is_found, Within}
 use Rattle.slots.specs.Marks.{is_marked, unmarked, noted, mark_at, NoMarks, OneMark}
-use Rattle.slots.proofs.Walking.{held_at, probed_within}
-use Rattle.slots.proofs.Cells.{keys_length, keys_mark}
+use Rattle.slots.proofs.Walking.{held_at, walk_within}
+use Rattle.slots.proofs.Cells.{keys_mark}
 
 module _ {K : Type 0} where
   unmarked_keys : (xs : List (Slot K)) → keys_of (unmarked xs) ≡ keys_of xs
@@ -37,9 +38,6 @@ module _ {K : Type 0} where
 
   -- whether the walk to x ended at a mark, after k was marked where its walk ended
   module _ (b : K → List ℕ) (inj : (x y : K) → b x ≡ b y → x ≡ y) (xs : List (Slot K)) where
-    apart : {P : Type 0} → ◌≡◌ {A = ℕ} 0 1 → P
-    apart z = absurd (omega arith)
-
     held-key : (k : K) (i : ℕ) → Found i ≡ probed b k (keys_of xs) → (d : Option K) → get_or (keys_of xs) i d ≡ Some k
     held-key k i e d =
         let (x, lt, get, agree) = held_at b k i (keys_of xs) e in
@@ -59,20 +57,12 @@ module _ {K : Type 0} where
         absurd (n (let g : Found i ≡ Found j = e ∙ ap (λ y. probed b y (keys_of xs)) eq ∙ sym f in cc))
     other_place k x i j false e f n t = refl
 
-    or_true : (m : Bool) → (m || true) ≡ true
-    or_true true = refl
-    or_true false = refl
-
-    or_none : (m : Bool) → (m || false) ≡ m
-    or_none true = refl
-    or_none false = refl
-
     both_found : (k x : K) (i j : ℕ) → Found i ≡ probed b k (keys_of xs) → Found j ≡ probed b x (keys_of xs) → i < length xs → (j ≡ i) ⊎ (j ≡ i → ⊥) → is_marked (get_or (set xs i (Marked k)) j Empty) ≡ (is_marked (get_or xs j Empty) || (same_bytes (b k) (b x) && true))
     both_found k x i j e f lt (inl at) =
         ap (λ q. is_marked (get_or (set xs i (Marked k)) q Empty)) at ∙ ap is_marked (get_or-set_same xs i (Marked k) Empty lt)
-        ∙ sym (or_true (is_marked (get_or xs j Empty))) ∙ ap (λ s. is_marked (get_or xs j Empty) || (s && true)) (sym (same_place k x i j e f at))
+        ∙ sym (or-true (is_marked (get_or xs j Empty))) ∙ ap (λ s. is_marked (get_or xs j Empty) || (s && true)) (sym (same_place k x i j e f at))
     both_found k x i j e f lt (inr n) =
-        ap is_marked (get_or-set_other xs i j (Marked k) Empty n) ∙ sym (or_none (is_marked (get_or xs j Empty)))
+        ap is_marked (get_or-set_other xs i j (Marked k) Empty n) ∙ sym (or-false (is_marked (get_or xs j Empty)))
         ∙ ap (λ s. is_marked (get_or xs j Empty) || (s && true)) (sym (other_place k x i j (same_bytes (b k) (b x)) e f n refl))
 
     -- a key whose walk does not meet it is not the one that was marked
@@ -82,16 +72,12 @@ module _ {K : Type 0} where
         ap (λ y. reached b (keys_of xs) y) eq ∙ ap is_found (sym e) ∙ f
     not_met k x q false e f t = refl
 
-    and_no : (s : Bool) → (s && false) ≡ false
-    and_no true = refl
-    and_no false = refl
-
     one_by : (k x : K) (p q : Probe) → p ≡ probed b k (keys_of xs) → q ≡ probed b x (keys_of xs) → Within p (length xs) → mark_at q (noted p k xs) ≡ (mark_at q xs || (same_bytes (b k) (b x) && is_found p))
     one_by k x (Found i) (Found j) e f lt = both_found k x i j e f lt (cases_eq j i)
     one_by k x (Found i) (Free j) e f lt = sym (ap (λ m. same_bytes (b k) (b x) && m) (ap is_found e) ∙ not_met k x (Free j) (same_bytes (b k) (b x)) f refl refl)
     one_by k x (Found i) Full e f lt = sym (ap (λ m. same_bytes (b k) (b x) && m) (ap is_found e) ∙ not_met k x Full (same_bytes (b k) (b x)) f refl refl)
-    one_by k x (Free i) q e f lt = sym (ap (λ m. mark_at q xs || m) (and_no (same_bytes (b k) (b x))) ∙ or_none (mark_at q xs))
-    one_by k x Full q e f lt = sym (ap (λ m. mark_at q xs || m) (and_no (same_bytes (b k) (b x))) ∙ or_none (mark_at q xs))
+    one_by k x (Free i) q e f lt = sym (ap (λ m. mark_at q xs || m) (and-false (same_bytes (b k) (b x))) ∙ or-false (mark_at q xs))
+    one_by k x Full q e f lt = sym (ap (λ m. mark_at q xs || m) (and-false (same_bytes (b k) (b x))) ∙ or-false (mark_at q xs))
 
     noted_keys : (k : K) (p : Probe) → p ≡ probed b k (keys_of xs) → keys_of (noted p k xs) ≡ keys_of xs
     noted_keys k (Found i) e = keys_mark xs i k (held-key k i e None)
@@ -100,7 +86,7 @@ module _ {K : Type 0} where
 
     pub one_mark : (k : K) (p : Probe) → p ≡ probed b k (keys_of xs) → OneMark b k xs (noted p k xs)
     one_mark k p e =
-        let lt = subst (λ (n : ℕ). Within p n) (keys_length xs) (probed_within b k (keys_of xs) p e) in
+        let lt = walk_within b k xs p e in
         record {
           same = noted_keys k p e;
           exact = λ x.

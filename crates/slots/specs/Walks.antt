@@ -22,6 +22,11 @@ find bytes k i [] = Full
 find bytes k i (None ∷ xs) = Free i
 find bytes k i (Some x ∷ xs) = cond (same_bytes (bytes x) (bytes k)) (Found i) (find bytes k (i + 1) xs)
 
+-- where a walk stops at what a slot holds, if it does
+abbrev pub stop : {K : Type 0} → (K → List ℕ) → K → ℕ → Option K → Option Probe
+stop bytes k i None = Some (Free i)
+stop bytes k i (Some x) = cond (same_bytes (bytes x) (bytes k)) (Some (Found i)) None
+
 -- a walk that ended nowhere goes on
 abbrev pub or_else : Probe → Probe → Probe
 or_else (Found i) q = Found i

@@ -1,6 +1,6 @@
 // Marks on the keys of a table, in place.
-ghost use Rattle.std.specs.Prelude.{◌≡◌, length};
-ghost use Rattle.slots.specs.Walks.{keys_of, probed, Within};
+ghost use Rattle.std.specs.Prelude.{◌≡◌};
+ghost use Rattle.slots.specs.Walks.{keys_of, probed};
 ghost use Rattle.slots.specs.Marks.{unmarked, noted, marked, NoMarks, OneMark};
 
 use crate::probe::Probe;
@@ -13,20 +13,8 @@ pub fn unmark<K: Key>(slots: &mut [Slot<K>])
     ensures after { slots.new ≡ unmarked slots.old }
     ensures meaning { NoMarks K.bytes slots.old slots.new }
 {
-    for slot in slots.iter_mut() {
+    for slot in slots {
         *slot = slot.without_mark();
-    }
-}
-
-// Marks the key where its walk ended, if it was met there.
-fn note_key<K: Key>(slots: &mut [Slot<K>], met: Probe, key: K)
-    requires { Within met (length slots.old) }
-    ensures { slots.new ≡ noted met key slots.old }
-{
-    match met {
-        Probe::Found(place) => slots[place] = Slot::Marked(key),
-        Probe::Free(_) => {}
-        Probe::Full => {}
     }
 }
 
@@ -35,16 +23,14 @@ pub fn mark_key<K: Key>(slots: &mut [Slot<K>], key: K)
     ensures after { slots.new ≡ noted (probed K.bytes key (keys_of slots.old)) key slots.old }
     ensures meaning { OneMark K.bytes key slots.old slots.new }
 {
-    let met = probe_for(slots, key);
-    note_key(slots, met, key);
+    if let Probe::Found(place) = probe_for(slots, key) {
+        slots[place] = Slot::Marked(key);
+    }
 }
 
 // Whether a walk meets the key, and the key is marked there.
 pub fn is_marked<K: Key>(slots: &[Slot<K>], key: K) -> bool
     ensures { result ≡ marked K.bytes slots.now key }
 {
-    match probe_for(slots, key) {
-        Probe::Found(place) => slots[place].has_mark(),
-        _ => false,
-    }
+    matches!(probe_for(slots, key), Probe::Found(place) if slots[place].has_mark())
 }

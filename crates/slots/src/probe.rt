@@ -2,7 +2,8 @@
 ghost use Rattle.std.specs.Prelude.{◌≡◌};
 ghost use Rattle.slots.specs.Walks.{is_found};
 
-#[derive(Clone, Copy)]
+// Its three ends have a name each, which an Option or a Result of places would not give them.
+#[derive(Clone, Copy, Debug, PartialEq, Eq)]
 pub enum Probe {
     // The key is held at this place.
     Found(usize),
@@ -17,9 +18,6 @@ impl Probe {
     pub fn is_found(self) -> bool
         ensures { result ≡ is_found self }
     {
-        match self {
-            Probe::Found(_) => true,
-            _ => false,
-        }
+        matches!(self, Probe::Found(_))
     }
 }

@@ -3,7 +3,7 @@ ghost use Rattle.std.specs.Prelude.{◌≡◌};
 ghost use Rattle.slots.specs.Walks.{key_of};
 ghost use Rattle.slots.specs.Marks.{is_marked, plain};
 
-#[derive(Clone, Copy)]
+#[derive(Clone, Copy, Debug, PartialEq, Eq)]
 pub enum Slot<K> {
     Empty,
     // A key without a mark.
@@ -19,8 +19,7 @@ impl<K: Copy> Slot<K> {
     {
         match self {
             Slot::Empty => None,
-            Slot::Plain(key) => Some(*key),
-            Slot::Marked(key) => Some(*key),
+            Slot::Plain(key) | Slot::Marked(key) => Some(*key),
         }
     }
 
@@ -28,10 +27,7 @@ impl<K: Copy> Slot<K> {
     pub fn has_mark(&self) -> bool
         ensures { result ≡ is_marked self.now }
     {
-        match self {
-            Slot::Marked(_) => true,
-            _ => false,
-        }
+        matches!(self, Slot::Marked(_))
     }
 
     // The slot without its mark.

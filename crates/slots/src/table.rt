@@ -1,20 +1,13 @@
 // Lookup, insert and empty.
-ghost use Rattle.std.specs.Prelude.{◌≡◌, ◌≤◌, ◌||◌, List, ◌++◌, length, drop, replicate, ◌==◌};
+ghost use Rattle.std.specs.Prelude.{◌≡◌, ◌≤◌, List, length, replicate};
 ghost use Rattle.slots.specs.declared.slot.Slot.TheVariants.{Empty};
-ghost use Rattle.slots.specs.Walks.{keys_of, Within, reached, looked};
+ghost use Rattle.slots.specs.Walks.{keys_of, reached, looked};
 ghost use Rattle.slots.specs.Tables.{holds, filled, Sound, Emptied, Inserted, put, listed, MadeBy};
 
 use crate::probe::Probe;
 use crate::slot::Slot;
 use crate::walk::probe_for;
 use keys::Key;
-
-// Whether the table holds nothing for sure: it has no slots, or is told to hold no key.
-fn holds_nothing<K>(slots: &[Slot<K>], count: usize) -> bool
-    ensures { result ≡ (length slots.now == 0 || count == 0) }
-{
-    slots.len() == 0 || count == 0
-}
 
 // Whether a walk meets the key in a table that is told to hold `count` keys.
 pub fn lookup<K: Key>(slots: &[Slot<K>], count: usize, key: K) -> bool
@@ -23,22 +16,7 @@ pub fn lookup<K: Key>(slots: &[Slot<K>], count: usize, key: K) -> bool
     ensures exact { Sound K.bytes (keys_of slots.now) → filled (keys_of slots.now) ≤ count → result ≡ holds K.bytes (keys_of slots.now) key }
     ensures since { (inserted : List K) → MadeBy K.bytes inserted (keys_of slots.now) → filled (keys_of slots.now) ≤ count → result ≡ listed K.bytes inserted key }
 {
-    if holds_nothing(slots, count) {
-        return false;
-    }
-    probe_for(slots, key).is_found()
-}
-
-// Puts the key where its walk ended, if that is an empty slot.
-fn put_key<K: Key>(slots: &mut [Slot<K>], met: Probe, key: K)
-    requires { Within met (length slots.old) }
-    ensures { slots.new ≡ put met key slots.old }
-{
-    match met {
-        Probe::Found(_) => {}
-        Probe::Free(place) => slots[place] = Slot::Plain(key),
-        Probe::Full => {}
-    }
+    count > 0 && probe_for(slots, key).is_found()
 }
 
 // Puts the key into the empty slot that its walk ends at, and tells where the walk ended.
@@ -47,18 +25,10 @@ pub fn insert<K: Key>(slots: &mut [Slot<K>], key: K) -> Probe
     ensures meaning { Inserted K.bytes key (keys_of slots.old) result (keys_of slots.new) }
 {
     let met = probe_for(slots, key);
-    put_key(slots, met, key);
-    met
-}
-
-// Empties the slots below a place.
-fn empty_below<K: Key>(slots: &mut [Slot<K>], place: usize)
-    requires { place ≤ length slots.old }
-    ensures { slots.new ≡ replicate place Empty ++ drop place slots.old }
-{
-    for i in 0..place {
-        slots[i] = Slot::Empty;
+    if let Probe::Free(place) = met {
+        slots[place] = Slot::Plain(key);
     }
+    met
 }
 
 // Empties every slot.
@@ -66,6 +36,5 @@ pub fn empty<K: Key>(slots: &mut [Slot<K>])
     ensures after { slots.new ≡ replicate (length slots.old) Empty }
     ensures meaning { Emptied K.bytes (keys_of slots.new) }
 {
-    let long = slots.len();
-    empty_below(slots, long);
+    slots.fill(Slot::Empty);
 }

@@ -2,5 +2,5 @@ use Rattle.std.proofs.Common.{◌≡◌}
 use Rattle.bloom.specs.Bits.{with_bits, place}
 use Rattle.bloom.proofs.bits.set_bits.Given as goal
 
-abbrev pub invariant-loop-nth : goal.invariant-loop-nth
-invariant-loop-nth g l = l.bytes ≡ with_bits (place (g.K.Key.bytes l.key) l.long) l.nth l.initial.bytes
+abbrev pub invariant-loop-seed : goal.invariant-loop-seed
+invariant-loop-seed g l = l.bytes ≡ with_bits (place (g.K.Key.bytes l.key) l.long) l.seed l.initial.bytes

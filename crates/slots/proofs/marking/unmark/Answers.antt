@@ -10,11 +10,11 @@ pub loop-slot-preserved : goal.loop-slot-preserved
 loop-slot-preserved g c =
     let l = c.loop-slot in
     let e = c.without_mark.ensures ∙ ap plain (sym c.slot-item.is) in
-    ap (λ y. set l.slots l.slot-index y) e
-    ∙ map_over_more plain c.args.slots.now l.slots l.slot-index c.slot-item.result c.loop-slot-test.true l.invariant c.slot-item.is
+    ap (λ y. set l.slot-items l.slot-index y) e
+    ∙ map_over_more plain c.args.slots.now l.slot-items l.slot-index c.slot-item.result c.loop-slot-test.true l.invariant c.slot-item.is
 
-pub returns : goal.returns
-returns g c =
+pub returns-clause-meaning : goal.returns-clause-meaning
+returns-clause-meaning g c =
     let xs = c.args.slots.now in
-    let e : c.loop-slot.slots ≡ unmarked xs = search (rules, take_all, drop_all) in
-    record { after = e; meaning = subst (λ (ys : List (Slot g.row.K.Denot)). NoMarks g.K.Key.bytes xs ys) (sym e) (no_marks g.K.Key.bytes xs) }
+    let e : c.loop-slot.slot-items ≡ unmarked xs = search (rules, take_all, drop_all) in
+    subst (λ (ys : List (Slot g.row.K.Denot)). NoMarks g.K.Key.bytes xs ys) (sym e) (no_marks g.K.Key.bytes xs)
