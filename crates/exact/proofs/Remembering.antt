@@ -3,7 +3,6 @@ use Rattle.std.proofs.Common.{◌≡◌, ℕ, ◌+◌, ◌<◌, ◌≤◌, min, 
 use Rattle.std.proofs.lemmas.List.{take_more, take_all, get_or-take, length-take}
 use Rattle.std.proofs.lemmas.Bool.{not-true, not-false, eqb-true, eqb-false, or_parts}
 use Rattle.keys.specs.Octets.{same_bytes}
-use Rattle.keys.specs.declared.key.Key.{Ghosts}
 use Rattle.keys.specs.Little.{same_equal}
 use Rattle.slots.specs.Walks.{reached}
 use Rattle.slots.specs.Tables.{Sound, listed}
@@ -14,7 +13,7 @@ use Rattle.exact.specs.declared.table.ExactTable.{ExactTable}
 use Rattle.slots.proofs.Walking.{or_swap}
 
 -- after i of the keys, in a table of n slots
-pub record Teaching {K : Type 0} {g : Ghosts K} (b : K → List ℕ) (n : ℕ) (ks : List K) (i : ℕ) (t : ExactTable K g) : Type 0 where
+pub record Teaching {K : Type 0} (b : K → List ℕ) (n : ℕ) (ks : List K) (i : ℕ) (t : ExactTable K) : Type 0 where
   pub capacity : (exact_meaning b).capacity t ≡ n
   pub sealed : t.intake.sealed ≡ false
   pub sound : Sound b (held_by t)
@@ -22,7 +21,7 @@ pub record Teaching {K : Type 0} {g : Ghosts K} (b : K → List ℕ) (n : ℕ) (
   pub exact : (x : K) → (exact_meaning b).covers t x ≡ listed b (take i (take n ks)) x
 
 -- after i of the keys, in a table that was s when it was sealed
-pub record MarkingOn {K : Type 0} {g : Ghosts K} (b : K → List ℕ) (s : ExactTable K g) (ks : List K) (i : ℕ) (t : ExactTable K g) : Type 0 where
+pub record MarkingOn {K : Type 0} (b : K → List ℕ) (s : ExactTable K) (ks : List K) (i : ℕ) (t : ExactTable K) : Type 0 where
   pub capacity : (exact_meaning b).capacity t ≡ (exact_meaning b).capacity s
   pub sealed : t.intake.sealed ≡ true
   pub same : held_by t ≡ held_by s
@@ -46,11 +45,11 @@ module _ {K : Type 0} (b : K → List ℕ) where
   listed_more ks i k x lt e =
       ap (λ ys. listed b ys x) (take_more ks i k lt ∙ ap (λ y. take i ks ++ y ∷ []) (sym e)) ∙ listed_push (take i ks) k x
 
-module _ {K : Type 0} {g : Ghosts K} (b : K → List ℕ) where
-  pub teach_none : (s t : ExactTable K g) (ks : List K) → Started (exact_meaning b) s t → ExactStart b t → Teaching b ((exact_meaning b).capacity t) ks 0 t
+module _ {K : Type 0} (b : K → List ℕ) where
+  pub teach_none : (s t : ExactTable K) (ks : List K) → Started (exact_meaning b) s t → ExactStart b t → Teaching b ((exact_meaning b).capacity t) ks 0 t
   teach_none s t ks e own = record { capacity = refl; sealed = e.sealed; sound = own.sound; count = e.count ∙ omega arith; exact = own.none }
 
-  pub teach_more : (n : ℕ) (ks : List K) (i : ℕ) (k : K) (r : Bool) (s t : ExactTable K g) → i < length ks → k ≡ get_or ks i k → Learned (exact_meaning b) s k r t → ExactLearn b s k r t → Teaching b n ks i s → Teaching b n ks (i + 1) t
+  pub teach_more : (n : ℕ) (ks : List K) (i : ℕ) (k : K) (r : Bool) (s t : ExactTable K) → i < length ks → k ≡ get_or ks i k → Learned (exact_meaning b) s k r t → ExactLearn b s k r t → Teaching b n ks i s → Teaching b n ks (i + 1) t
   teach_more n ks i k true s t lt at e own h =
       let some = or_parts s.intake.sealed (eqb s.intake.count ((exact_meaning b).capacity s)) (not-true _ (sym e.answer)) in
       let differs = eqb-false s.intake.count ((exact_meaning b).capacity s) some.1 in
@@ -79,7 +78,7 @@ module _ {K : Type 0} {g : Ghosts K} (b : K → List ℕ) where
         exact = λ x. same.covers x ∙ h.exact x ∙ ap (λ ys. listed b ys x) (take_all i (take n ks) short ∙ sym (take_all (i + 1) (take n ks) short'));
       }
 
-  pub teach_all : (s t : ExactTable K g) (n : ℕ) (ks : List K) (i : ℕ) → n ≡ (exact_meaning b).capacity s → length ks ≤ i → Teaching b n ks i t → Taught b s ks t
+  pub teach_all : (s t : ExactTable K) (n : ℕ) (ks : List K) (i : ℕ) → n ≡ (exact_meaning b).capacity s → length ks ≤ i → Teaching b n ks i t → Taught b s ks t
   teach_all s t n ks i e end h =
       let short : length (take n ks) ≤ i = omega (arith, length-take n ks) in
       record {
@@ -89,10 +88,10 @@ module _ {K : Type 0} {g : Ghosts K} (b : K → List ℕ) where
         exact = λ x. h.exact x ∙ ap (λ ys. listed b ys x) (take_all i (take n ks) short ∙ ap (λ m. take m ks) e);
       }
 
-  pub mark_none : (s t : ExactTable K g) (ks : List K) → Sealed (exact_meaning b) s t → ExactSeal b s t → MarkingOn b t ks 0 t
+  pub mark_none : (s t : ExactTable K) (ks : List K) → Sealed (exact_meaning b) s t → ExactSeal b s t → MarkingOn b t ks 0 t
   mark_none s t ks e own = record { capacity = refl; sealed = e.sealed; same = refl; exact = own.none }
 
-  pub mark_turn : ((x y : K) → b x ≡ b y → x ≡ y) → (s u : ExactTable K g) (ks : List K) (i : ℕ) (k : K) (t : ExactTable K g) → i < length ks → k ≡ get_or ks i k → Noted (exact_meaning b) u k t → ExactMark b u k t → MarkingOn b s ks i u → MarkingOn b s ks (i + 1) t
+  pub mark_turn : ((x y : K) → b x ≡ b y → x ≡ y) → (s u : ExactTable K) (ks : List K) (i : ℕ) (k : K) (t : ExactTable K) → i < length ks → k ≡ get_or ks i k → Noted (exact_meaning b) u k t → ExactMark b u k t → MarkingOn b s ks i u → MarkingOn b s ks (i + 1) t
   mark_turn inj s u ks i k t lt at e own h = record {
     capacity = e.capacity ∙ h.capacity;
     sealed = e.sealed ∙ h.sealed;
@@ -105,7 +104,7 @@ module _ {K : Type 0} {g : Ghosts K} (b : K → List ℕ) where
         ∙ ap (λ m. m && (exact_meaning b).covers s x) (sym (listed_more b ks i k x lt at));
   }
 
-  pub mark_end : (s u t : ExactTable K g) (ks : List K) (i : ℕ) → Sealed (exact_meaning b) s u → ExactSeal b s u → length ks ≤ i → MarkingOn b u ks i t → Marked b s ks t
+  pub mark_end : (s u t : ExactTable K) (ks : List K) (i : ℕ) → Sealed (exact_meaning b) s u → ExactSeal b s u → length ks ≤ i → MarkingOn b u ks i t → Marked b s ks t
   mark_end s u t ks i e own end h = record {
     capacity = h.capacity ∙ e.capacity;
     sealed = h.sealed;

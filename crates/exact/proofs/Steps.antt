@@ -3,7 +3,6 @@ use Rattle.std.proofs.Common.{◌≡◌, ℕ, ◌+◌, Bool, true, false, cond, 
 use Rattle.std.proofs.lemmas.Bool.{not-true, or_parts, or_left, or_right, and_from, eqb-false}
 use Rattle.keys.specs.Octets.{same_bytes}
 use Rattle.keys.specs.Little.{same_self}
-use Rattle.keys.specs.declared.key.Key.{Ghosts}
 use Rattle.slots.specs.declared.probe.Probe.{Probe}
 use Rattle.slots.specs.declared.slot.Slot.{Slot}
 use Rattle.slots.specs.Walks.{keys_of, reached, is_full}
@@ -15,14 +14,14 @@ use Rattle.live.specs.Meaning.{Learned, Noted, closed}
 use Rattle.exact.specs.Exact.{held_by, exact_meaning, ExactStart, ExactLearn}
 use Rattle.exact.specs.declared.table.ExactTable.{ExactTable}
 
-module _ {K : Type 0} {g : Ghosts K} (b : K → List ℕ) where
-  pub started : (t : ExactTable K g) (ws : List (Slot K)) → Emptied b (keys_of ws) → vec_items t.slots ≡ ws → ExactStart b t
+module _ {K : Type 0} (b : K → List ℕ) where
+  pub started : (t : ExactTable K) (ws : List (Slot K)) → Emptied b (keys_of ws) → vec_items t.slots ≡ ws → ExactStart b t
   started t ws d e =
       let h = subst (λ (ys : List (Slot K)). Emptied b (keys_of ys)) (sym e) d in
       record { sound = h.sound; none = λ x. none_reached b x (held_by t) h.none }
 
   -- a set that is not closed has space, so that the insert does not fail
-  not_full : (s : ExactTable K g) (k : K) (r : Probe) (ys : List (Option K)) → closed (exact_meaning b) s ≡ false → Inserted b k (held_by s) r ys → is_full r ≡ false
+  not_full : (s : ExactTable K) (k : K) (r : Probe) (ys : List (Option K)) → closed (exact_meaning b) s ≡ false → Inserted b k (held_by s) r ys → is_full r ≡ false
   not_full s k r ys unclosed d = by (is_full r) refl
     where
       by : (v : Bool) → is_full r ≡ v → is_full r ≡ false
@@ -32,7 +31,7 @@ module _ {K : Type 0} {g : Ghosts K} (b : K → List ℕ) where
           absurd (omega (arith, s.space, s.intake.space, differs, keys_length (vec_items s.slots)))
       by false e = e
 
-  module _ (s t : ExactTable K g) (k : K) (r : Probe) (xs ws : List (Slot K)) (v : xs ≡ vec_items s.slots) (w : vec_items t.slots ≡ ws) (done : Inserted b k (keys_of xs) r (keys_of ws))
+  module _ (s t : ExactTable K) (k : K) (r : Probe) (xs ws : List (Slot K)) (v : xs ≡ vec_items s.slots) (w : vec_items t.slots ≡ ws) (done : Inserted b k (keys_of xs) r (keys_of ws))
       (taken : Bool) (was : taken ≡ true) (answer : taken ≡ not (closed (exact_meaning b) s)) where
     unclosed : closed (exact_meaning b) s ≡ false
     unclosed = not-true (closed (exact_meaning b) s) (sym answer ∙ was)
@@ -60,7 +59,7 @@ module _ {K : Type 0} {g : Ghosts K} (b : K → List ℕ) where
           ∙ ap (λ m. same_bytes (b k) (b x) || m) (sym (met_is b x (held_by s) so));
     }
 
-  pub noted : (s t : ExactTable K g) (k : K) (xs ws : List (Slot K)) → xs ≡ vec_items s.slots → vec_items t.slots ≡ ws → OneMark b k xs ws → t.intake ≡ s.intake → s.intake.sealed ≡ true → Noted (exact_meaning b) s k t
+  pub noted : (s t : ExactTable K) (k : K) (xs ws : List (Slot K)) → xs ≡ vec_items s.slots → vec_items t.slots ≡ ws → OneMark b k xs ws → t.intake ≡ s.intake → s.intake.sealed ≡ true → Noted (exact_meaning b) s k t
   noted s t k xs ws v w done intake sealed =
       let d : OneMark b k (vec_items s.slots) (vec_items t.slots) = rw (w, ← v) done in
       let same : held_by t ≡ held_by s = d.same in

@@ -2,7 +2,6 @@
 use Rattle.std.specs.Prelude.{◌≡◌, ℕ, Bool, true, false, not, ◌&&◌, ◌||◌, List, vec_items, Option}
 use Rattle.std.proofs.lemmas.Bool.{or_left, not_from_false}
 use Rattle.keys.specs.Octets.{same_bytes}
-use Rattle.keys.specs.declared.key.Key.{Ghosts}
 use Rattle.slots.specs.Walks.{keys_of, reached}
 use Rattle.slots.specs.Tables.{Sound}
 use Rattle.slots.specs.Marks.{marked}
@@ -10,11 +9,11 @@ use Rattle.live.specs.Meaning.{Meaning}
 use Rattle.exact.specs.declared.table.ExactTable.{ExactTable}
 
 -- the keys in its slots
-abbrev pub held_by : {K : Type 0} {g : Ghosts K} → ExactTable K g → List (Option K)
+abbrev pub held_by : {K : Type 0} → ExactTable K → List (Option K)
 held_by t = keys_of (vec_items t.slots)
 
 -- it covers the keys that a walk meets, and after sealing says yes to those that are marked there
-abbrev pub exact_meaning : {K : Type 0} {g : Ghosts K} → (K → List ℕ) → Meaning (ExactTable K g) K
+abbrev pub exact_meaning : {K : Type 0} → (K → List ℕ) → Meaning (ExactTable K) K
 exact_meaning bytes = record {
   count = λ t. t.intake.count;
   capacity = λ t. t.intake.capacity;
@@ -25,21 +24,21 @@ exact_meaning bytes = record {
 }
 
 -- started, it is sound, and covers nothing
-pub record ExactStart {K : Type 0} {g : Ghosts K} (bytes : K → List ℕ) (t : ExactTable K g) : Type 0 where
+pub record ExactStart {K : Type 0} (bytes : K → List ℕ) (t : ExactTable K) : Type 0 where
   pub sound : Sound bytes (held_by t)
   pub none : (x : K) → (exact_meaning bytes).covers t x ≡ false
 
 -- a sound table stays sound, and covers exactly the one key more
-pub record ExactLearn {K : Type 0} {g : Ghosts K} (bytes : K → List ℕ) (s : ExactTable K g) (k : K) (r : Bool) (t : ExactTable K g) : Type 0 where
+pub record ExactLearn {K : Type 0} (bytes : K → List ℕ) (s : ExactTable K) (k : K) (r : Bool) (t : ExactTable K) : Type 0 where
   pub sound : Sound bytes (held_by s) → Sound bytes (held_by t)
   pub exact : Sound bytes (held_by s) → r ≡ true → (x : K) → (exact_meaning bytes).covers t x ≡ (same_bytes (bytes k) (bytes x) || (exact_meaning bytes).covers s x)
 
 -- just sealed, it covers the same keys, and says no to all
-pub record ExactSeal {K : Type 0} {g : Ghosts K} (bytes : K → List ℕ) (s t : ExactTable K g) : Type 0 where
+pub record ExactSeal {K : Type 0} (bytes : K → List ℕ) (s t : ExactTable K) : Type 0 where
   pub keys : held_by t ≡ held_by s
   pub none : (x : K) → (exact_meaning bytes).says t x ≡ false
 
 -- a mark changes no key, and after sealing adds a yes to exactly the one key, if it is covered
-pub record ExactMark {K : Type 0} {g : Ghosts K} (bytes : K → List ℕ) (s : ExactTable K g) (k : K) (t : ExactTable K g) : Type 0 where
+pub record ExactMark {K : Type 0} (bytes : K → List ℕ) (s : ExactTable K) (k : K) (t : ExactTable K) : Type 0 where
   pub keys : held_by t ≡ held_by s
   pub exact : s.intake.sealed ≡ true → (x : K) → (exact_meaning bytes).says t x ≡ ((exact_meaning bytes).says s x || (same_bytes (bytes k) (bytes x) && (exact_meaning bytes).covers s k))
