@@ -11,15 +11,20 @@ fn fnv(number: u64) -> Fnv {
     Fnv::from(number)
 }
 
-// Learns the keys, and writes the answers as binary digits, the first key's first.
-fn learn_each<K: Key, L: LiveSet<K>>(set: &mut L, keys: &[K]) -> u64 {
+// What is answered to each key, as binary digits, the first key's first.
+fn digits<K: Copy, F: FnMut(K) -> bool>(keys: &[K], mut answer: F) -> u64
+    requires { F.IsAlwaysCallable answer }
+{
     let mut digits = 0u64;
     for key in keys {
-        digits = digits
-            .wrapping_mul(2)
-            .wrapping_add(u64::from(set.learn(*key)));
+        digits = digits.wrapping_mul(2).wrapping_add(u64::from(answer(*key)));
     }
     digits
+}
+
+// Learns the keys, and tells which were learned.
+fn learn_each<K: Key, L: LiveSet<K>>(set: &mut L, keys: &[K]) -> u64 {
+    digits(keys, |key| set.learn(key))
 }
 
 // Marks the keys.
@@ -29,15 +34,9 @@ fn mark_each<K: Key, L: LiveSet<K>>(set: &mut L, keys: &[K]) {
     }
 }
 
-// What the set says of the keys, as binary digits, the first key's first.
+// What the set says of the keys.
 fn says_of<K: Key, L: LiveSet<K>>(set: &L, keys: &[K]) -> u64 {
-    let mut digits = 0u64;
-    for key in keys {
-        digits = digits
-            .wrapping_mul(2)
-            .wrapping_add(u64::from(set.says(*key)));
-    }
-    digits
+    digits(keys, |key| set.says(key))
 }
 
 #[test]
