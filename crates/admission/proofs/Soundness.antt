@@ -1,6 +1,7 @@
 -- What holds of a device that is not refused.
 use Rattle.std.proofs.Common.{◌≡◌, ℕ, zero, suc, ◌<◌, ◌≤◌, Bool, true, false, cond, leb, List, [], ◌∷◌, length, Some, None, Ok, Option, refl, ⊎_elim, arith}
 use Rattle.std.proofs.lemmas.Bool.{and_parts, or_cases, leb-true, eqb-true}
+use Rattle.std.proofs.lemmas.List.{nil_from_length}
 use Rattle.std.specs.List.{AllByRecursion}
 use Rattle.keys.specs.Little.{same_equal}
 use Rattle.records.specs.Records.{Rec, Contents}
@@ -8,9 +9,9 @@ use Rattle.records.specs.Shapes.{Shape}
 use Rattle.records.specs.declared.refusal.Cause.{Cause}
 use Rattle.records.specs.declared.refusal.Place.{Place}
 use Rattle.records.proofs.Shaping.{shape_from}
-use Rattle.devices.specs.Questions.{records_of}
+use Rattle.devices.specs.Questions.{records_of, unused}
 use Rattle.admission.specs.Causes.{fault_of}
-use Rattle.admission.specs.Admission.{refused_among, refused_from, is_free, some_free, wrong_size, first_fault, first_repeat, admission_answer, Admitted}
+use Rattle.admission.specs.Admission.{refused_among, refused_from, some_free, wrong_size, first_fault, first_repeat, admission_answer, Admitted}
 use Rattle.admission.proofs.Searching.{none_refused, none_both, none_told}
 use Rattle.admission.proofs.Repeats.{single_from}
 
@@ -32,17 +33,13 @@ module _ (judge : Place → Rec → Option Cause) (P : Rec → Type 0) (sees : (
   all_from c [] e = tt
   all_from c (rs ∷ cs) e = let s = none_both _ _ e in (all_among c 0 rs s.0, all_from (suc c) cs s.1)
 
-no_records : (rs : List Rec) → length rs ≡ 0 → rs ≡ []
-no_records [] e = refl
-no_records (r ∷ rs) e = absurd (omega arith)
-
 free_from : (cs : Contents) → some_free cs ≡ true → (c : ℕ) × (c < length cs) × (records_of cs c ≡ [])
 free_from [] e = absurd (let z : ◌≡◌ {A = ℕ} 0 1 = cc in omega arith)
 free_from (rs ∷ cs) e =
     ⊎_elim
-    (λ t. (zero, omega arith, no_records rs (eqb-true (length rs) 0 t)))
+    (λ t. (zero, omega arith, nil_from_length rs (eqb-true (length rs) 0 t)))
     (λ t. let k = free_from cs t in (suc k.0, (let l = k.1 in omega arith), k.2))
-    (or_cases (is_free rs) _ e)
+    (or_cases (unused rs) _ e)
 
 -- a device that is not refused is as an admitted one has to be
 pub admitted : (w : ℕ) (name : ℕ → List ℕ → List ℕ) (cs : Contents) → 1 ≤ w → Ok tt ≡ admission_answer w name cs → Admitted w name cs

@@ -1,7 +1,7 @@
 -- When a store admits a device, and with which refusal it does not.
-use Rattle.std.specs.Prelude.{◌≡◌, ℕ, suc, ◌<◌, ◌≤◌, Bool, false, cond, ◌&&◌, ◌||◌, List, [], ◌∷◌, length, Some, None, Ok, Err, Option, Result, ◌==◌, nat_le}
+use Rattle.std.specs.Prelude.{◌≡◌, ℕ, suc, ◌<◌, ◌≤◌, Bool, cond, ◌&&◌, List, [], ◌∷◌, length, Some, None, Ok, Err, Option, Result, nat_le}
 use Rattle.std.specs.Option.{option_or}
-use Rattle.std.specs.List.{AllByRecursion}
+use Rattle.std.specs.List.{AllByRecursion, list_any}
 use Rattle.records.specs.Records.{Rec, Contents}
 use Rattle.records.specs.Refusals.{untold, told_at}
 use Rattle.records.specs.Shapes.{Shape}
@@ -9,7 +9,7 @@ use Rattle.records.specs.declared.refusal.Cause.{Cause}
 use Rattle.records.specs.declared.refusal.Cause.TheVariants.{Size, NoneFree}
 use Rattle.records.specs.declared.refusal.Place.{Place}
 use Rattle.records.specs.declared.refusal.Refusal.{Refusal}
-use Rattle.devices.specs.Questions.{records_of}
+use Rattle.devices.specs.Questions.{records_of, unused, of_record}
 use Rattle.trees.specs.Holding.{Single}
 use Rattle.admission.specs.Causes.{fault_of, repeat_of}
 
@@ -30,14 +30,13 @@ abbrev pub refused_from : (Place → Rec → Option Cause) → ℕ → Contents 
 refused_from judge c [] = None
 refused_from judge c (rs ∷ cs) = option_or (refused_among judge c 0 rs) (refused_from judge (suc c) cs)
 
--- whether a container has no records
-abbrev pub is_free : List Rec → Bool
-is_free rs = length rs == 0
+-- a test answers at each place what `judge` says of the record there, where `post` tells what it may answer
+abbrev pub Judges : (Place → Rec → Option Cause) → Contents → (Place → Result (Option Cause) Refusal → Type 0) → Type 0
+Judges judge cs post = (p : Place) (r : Result (Option Cause) Refusal) → post p r → r ≡ of_record (judge p) cs p
 
--- whether some container has none
+-- whether some container has no records
 abbrev pub some_free : Contents → Bool
-some_free [] = false
-some_free (rs ∷ cs) = is_free rs || some_free cs
+some_free cs = list_any unused cs
 
 -- the refusal of too few or too many containers
 abbrev pub wrong_size : Contents → Option Refusal

@@ -7,8 +7,6 @@ use Rattle.records.specs.Shapes.{shaped}
 use Rattle.records.specs.declared.refusal.Cause.{Cause}
 use Rattle.records.specs.declared.refusal.Cause.TheVariants.{Shape, WrongFingerprint, RepeatedFingerprint}
 use Rattle.records.specs.declared.refusal.Place.{Place}
-use Rattle.admission.specs.declared.causes.Examination.{Examination}
-use Rattle.admission.specs.declared.causes.Examination.TheVariants.{Faults, Repeats}
 
 -- what is wrong with a record by itself, where fingerprints have w bytes and `name` gives the right one of a level and a payload
 abbrev pub fault_of : ℕ → (ℕ → List ℕ → List ℕ) → Rec → Option Cause
@@ -29,8 +27,3 @@ is_earlier (Some p) q = earlier p q
 -- what is wrong with the record at p if an earlier one has its fingerprint
 abbrev pub repeat_of : Contents → Place → Rec → Option Cause
 repeat_of cs p r = then_some (is_earlier (first_place cs r.fingerprint) p) RepeatedFingerprint
-
--- what an examination finds wrong with the record at a place
-abbrev pub cause_of : ℕ → (ℕ → List ℕ → List ℕ) → Contents → Examination → Place → Rec → Option Cause
-cause_of w name cs Faults = λ p r. fault_of w name r
-cause_of w name cs Repeats = repeat_of cs

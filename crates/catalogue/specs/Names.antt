@@ -1,18 +1,15 @@
 -- Names of sheets: which bytes may be one, and the bytes of one.
-use Rattle.std.specs.Prelude.{ℕ, Bool, true, ◌&&◌, List, [], ◌∷◌, length, take, nat_le}
+use Rattle.std.specs.Prelude.{ℕ, Bool, ◌&&◌, List, length, nat_le}
+use Rattle.std.specs.List.{list_all}
 use Rattle.catalogue.specs.declared.name.Name.{Name}
 
 -- a byte from 21 to 7E (hexadecimal)
 abbrev pub glyph : ℕ → Bool
 glyph b = nat_le 0x21 b && nat_le b 0x7e
 
-abbrev pub printable : List ℕ → Bool
-printable [] = true
-printable (b ∷ bs) = glyph b && printable bs
-
 -- 1 to 16 such bytes
 abbrev pub nameable : List ℕ → Bool
-nameable bs = nat_le 1 (length bs) && (nat_le (length bs) 16 && printable bs)
+nameable bs = nat_le 1 (length bs) && (nat_le (length bs) 16 && list_all glyph bs)
 
 abbrev pub spelled : Name → List ℕ
-spelled n = take n.len n.bytes
+spelled n = n.text.bytes

@@ -6,5 +6,5 @@ use crate::name::Name;
 pub struct Sheet<F> {
     pub name: Name,
     pub root: F,
-    pub readings: usize,
+    pub readings: u8,
 }

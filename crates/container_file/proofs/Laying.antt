@@ -1,15 +1,12 @@
 -- A file of zero bytes has free containers, and a file's bytes are those of what it holds.
-use Rattle.std.proofs.Common.{◌≡◌, ℕ, zero, suc, ◌+◌, ◌-◌, ◌*◌, ◌≤◌, List, [], ◌++◌, length, take, replicate, vec_items, sym, refl, ap, ◌∙◌, subst, suc-mul, add_comm, zero-mul, arith}
-use Rattle.std.proofs.lemmas.List.{length-replicate, replicate-append-replicate, drop_all, append-nil, take_all}
+use Rattle.std.proofs.Common.{◌≡◌, ℕ, zero, suc, ◌+◌, ◌*◌, ◌≤◌, List, [], ◌++◌, length, take, replicate, vec_items, sym, refl, ap, ◌∙◌, subst, suc-mul, add_comm, zero-mul, arith}
+use Rattle.std.proofs.lemmas.List.{length-replicate, replicate-append-replicate, append-nil, take_all}
 use Rattle.std.specs.List.{AllByRecursion}
-use Rattle.keys.specs.declared.fingerprint.Fingerprint as fingerprint
-use Rattle.keys.specs.declared.key.Key as key
 use Rattle.records.specs.Limits.{Stored, Limits}
 use Rattle.records.specs.Records.{Rec}
 use Rattle.container_format.specs.Layout.{container_size, file}
 use Rattle.container_format.specs.Reading.{read_file}
 use Rattle.container_format.specs.Checking.{Intact, Count}
-use Rattle.container_format.specs.Writing.{written}
 use Rattle.container_format.proofs.Files.{intact_made, reads_behind, length-read_file}
 use Rattle.container_file.specs.Meaning.{contents_of}
 use Rattle.container_file.specs.declared.file.ContainerFile.{ContainerFile}
@@ -32,12 +29,8 @@ pub record Laid (w n : ℕ) (bs after : List ℕ) : Type 0 where
   pub intact : Intact w n after
   pub free : read_file w n after ≡ replicate n []
 
-pub laid : (w n : ℕ) (bs after : List ℕ) → w ≤ 20 → Count w (length bs) n → after ≡ written 0 (replicate (length bs - 0) 0) bs → Laid w n bs after
-laid w n bs after narrow count is =
-    let L = length bs in
-    let z : L - 0 ≡ L = omega arith in
-    let past : L ≤ 0 + length (replicate {A = ℕ} L 0) = (let t = length-replicate {A = ℕ} L 0 in omega arith) in
-    let zeros : after ≡ replicate L 0 = is ∙ ap (λ k. written 0 (replicate k 0) bs) z ∙ ap (λ y. replicate L 0 ++ y) (drop_all _ bs past) ∙ append-nil (replicate L 0) in
+pub laid : (w n : ℕ) (bs after : List ℕ) → w ≤ 20 → Count w (length bs) n → after ≡ replicate (length bs) 0 → Laid w n bs after
+laid w n bs after narrow count zeros =
     let free : List (List Rec) = replicate n [] in
     let same : file w free ++ [] ≡ after = append-nil (file w free) ∙ zero_file w n ∙ ap (λ k. replicate k 0) (sym count.length) ∙ sym zeros in
     let l : length free ≡ n = length-replicate {A = List Rec} n [] in
@@ -48,7 +41,7 @@ laid w n bs after narrow count is =
     }
 
 -- the bytes of a file that holds containers are the file of what it holds
-pub whole_bytes : {F : Type 0} {g : fingerprint.Ghosts F} {k : key.Ghosts F} (w : ℕ) (s : ContainerFile F g k) → 1 ≤ length (contents_of w s) → Limits w (contents_of w s) × (vec_items s.bytes ≡ file w (contents_of w s))
+pub whole_bytes : {F : Type 0} (w : ℕ) (s : ContainerFile F) → 1 ≤ length (contents_of w s) → Limits w (contents_of w s) × (vec_items s.bytes ≡ file w (contents_of w s))
 whole_bytes w s h =
     let here = held_here w s 0 (omega arith) in
     let bs = vec_items s.bytes in

@@ -1,4 +1,4 @@
-pub mod Opening
+pub mod Headers
 pub mod Searching
 pub mod Appending
 pub mod Writes

@@ -5,8 +5,6 @@ use Rattle.std.proofs.ByRecursion.{All-weaker}
 use Rattle.std.proofs.lemmas.List.{get_or_past}
 use Rattle.std.proofs.lemmas.Bool.{eq-eqb, ne_eqb, cases_eq}
 use Rattle.std.specs.List.{AllByRecursion}
-use Rattle.keys.specs.declared.fingerprint.Fingerprint as fingerprint
-use Rattle.keys.specs.declared.key.Key as key
 use Rattle.records.specs.Limits.{Typed, Fits, Storable, Stored}
 use Rattle.records.specs.Records.{Rec, Contents, no_record}
 use Rattle.records.specs.declared.refusal.Place.{Place}
@@ -24,7 +22,7 @@ use Rattle.container_file.specs.declared.file.ContainerFile.{ContainerFile}
 pub held_at : (w v n : ℕ) (bs : List ℕ) → v ≡ w → cond (v == w) (read_file v n bs) [] ≡ read_file w n bs
 held_at w v n bs e = ap (λ b. cond b (read_file v n bs) []) (eq-eqb v w e) ∙ ap (λ k. read_file k n bs) e
 
-module _ {F : Type 0} {g : fingerprint.Ghosts F} {k : key.Ghosts F} (w : ℕ) (s : ContainerFile F g k) where
+module _ {F : Type 0} (w : ℕ) (s : ContainerFile F) where
   pub held_same : s.width ≡ w → contents_of w s ≡ read_as s
   held_same e = ap (λ b. cond b (read_as s) []) (eq-eqb s.width w e)
 
@@ -50,14 +48,14 @@ held_stored w cs h = record {
   typed = All-weaker (Stored w) (AllByRecursion (Typed w)) (λ rs k. All-weaker (Storable w) (Typed w) (λ r t. t.typed) rs k.each) cs h;
 }
 
-pub held-file : {F : Type 0} {g : fingerprint.Ghosts F} {k : key.Ghosts F} (w : ℕ) (s : ContainerFile F g k) → Held w (contents_of w s)
+pub held-file : {F : Type 0} (w : ℕ) (s : ContainerFile F) → Held w (contents_of w s)
 held-file w s =
     ⊎_elim
     (λ e. subst (Held w) (sym (held_same w s e)) (held_stored w (read_as s) (subst (λ v. AllByRecursion (Stored v) (read_as s)) e (intact w s).each)))
     (λ ne. subst (Held w) (sym (held_none w s ne)) (record { fits = tt; typed = tt }))
     (cases_eq s.width w)
 
-module _ {F : Type 0} {g : fingerprint.Ghosts F} {k : key.Ghosts F} (w : ℕ) (s : ContainerFile F g k) where
+module _ {F : Type 0} (w : ℕ) (s : ContainerFile F) where
   -- no such container, so no such record
   pub none_there : (p : Place) → length (contents_of w s) ≤ p.container → length (records_of (contents_of w s) p.container) ≤ p.index
   none_there p h = let e = ap length (get_or_past (contents_of w s) p.container [] h) in omega arith

@@ -1,12 +1,17 @@
 // Writing a record into a container, and emptying a container.
-ghost use Rattle.std.specs.Prelude.{◌≡◌, ◌+◌, ◌-◌, ◌^◌, ◌<◌, ◌≤◌, [], ◌∷◌, ◌++◌, length, replicate, slice_index_or, slice_set};
-ghost use Rattle.keys.specs.Octets.{little};
-ghost use Rattle.records.specs.Records.{payload_bytes};
+ghost use Rattle.std.specs.Prelude.{◌≡◌, ◌+◌, ◌-◌, ◌^◌, ◌<◌, ◌≤◌, [], ◌∷◌, ◌++◌, T, length, replicate, slice_set};
+ghost use Rattle.keys.specs.Octets.{Bytes, little};
+ghost use Rattle.records.specs.Records.{rec_of};
+ghost use Rattle.devices.specs.Questions.{records_of};
+ghost use Rattle.devices.specs.Changes.{storable, takes, appended, erased};
 ghost use Rattle.container_format.specs.Writing.{written};
-ghost use Rattle.container_file.specs.Meaning.{read_as};
+ghost use Rattle.container_file.specs.Meaning.{contents_of, Headed};
 
 use crate::file::ContainerFile;
-use keys::Fingerprint;
+use crate::header::Header;
+use container_format::{HEADER, body_at, container_size, entry_size};
+use keys::{Fingerprint, Key};
+use records::Record;
 
 // Copies `from` over `to`, which is as long.
 pub(crate) fn copy(to: &mut [u8], from: &[u8])
@@ -16,14 +21,24 @@ pub(crate) fn copy(to: &mut [u8], from: &[u8])
     to.copy_from_slice(from);
 }
 
-// Writes `from` into the middle of `bytes`.
+// Writes `from`, which are bytes, into the middle of `bytes`.
 fn put(bytes: &mut Vec<u8>, at: usize, from: &[u8])
     requires { at + length from.now ≤ length bytes.old.items }
+    ensures octets { Bytes from.now }
     ensures len { length bytes.new.items ≡ length bytes.old.items }
     ensures after { bytes.new.items ≡ written at from.now bytes.old.items }
 {
     let end = at + from.len();
     copy(&mut bytes[at..end], from);
+}
+
+// Writes a key into the middle of `bytes`.
+fn put_key<K: Key>(bytes: &mut Vec<u8>, at: usize, key: K)
+    requires { at + K.WIDE ≤ length bytes.old.items }
+    ensures len { length bytes.new.items ≡ length bytes.old.items }
+    ensures after { bytes.new.items ≡ written at (K.bytes key) bytes.old.items }
+{
+    let _ = key.write(&mut bytes[at..]);
 }
 
 // The bytes of an entry behind its fingerprint.
@@ -32,84 +47,64 @@ fn entry_tail(level: u8, len: usize, offset: usize) -> [u8; 8]
     requires offset { offset < 2 ^ 32 }
     ensures { result ≡ level ∷ 0 ∷ (little 2 len ++ little 4 offset) }
 {
-    let l = (len as u16).to_le_bytes();
-    let o = (offset as u32).to_le_bytes();
-    [level, 0, l[0], l[1], o[0], o[1], o[2], o[3]]
+    let [a, b] = (len as u16).to_le_bytes();
+    let [c, d, e, f] = (offset as u32).to_le_bytes();
+    [level, 0, a, b, c, d, e, f]
 }
 
 // The bytes of a header that are in use.
-fn header(count: usize, used: usize) -> [u8; 4]
+fn header_bytes(count: usize, used: usize) -> [u8; 4]
     requires count { count < 2 ^ 16 }
     requires used { used < 2 ^ 16 }
     ensures { result ≡ little 2 count ++ little 2 used }
 {
-    let c = (count as u16).to_le_bytes();
-    let u = (used as u16).to_le_bytes();
-    [c[0], c[1], u[0], u[1]]
+    let [a, b] = (count as u16).to_le_bytes();
+    let [c, d] = (used as u16).to_le_bytes();
+    [a, b, c, d]
 }
 
 impl<F: Fingerprint> ContainerFile<F> {
     // Writes a record behind the others of a container that takes it: the payload into the body behind the used part, then its entry, then the header.
-    pub(crate) fn write_record(
-        &mut self,
-        container: usize,
-        level: u8,
-        fingerprint: &[u8],
-        payload: &[u8],
-    )
-        requires here { container < self.old.count }
-        requires wide { length fingerprint.now ≡ self.old.width }
-        requires level { level ≤ 6 }
-        requires some { 1 ≤ length payload.now }
-        requires few { length payload.now ≤ 1280 }
-        requires count { length (slice_index_or (read_as self.old) container []) < 63 }
-        requires fits { payload_bytes (slice_index_or (read_as self.old) container []) + length payload.now ≤ 7168 }
-        ensures count { self.new.count ≡ self.old.count }
-        ensures width { self.new.width ≡ self.old.width }
-        ensures after { read_as self.new ≡ slice_set (read_as self.old) container (slice_index_or (read_as self.old) container [] ++ record { level = level; fingerprint = fingerprint.now; payload = payload.now } ∷ []) }
+    pub(crate) fn write_record(&mut self, header: Header, added: Record<'_, F>)
+        requires here { Headed F.Key.WIDE self.old header }
+        requires storable { T (storable (rec_of F.Key.bytes added)) }
+        requires takes { T (takes (records_of (contents_of F.Key.WIDE self.old) header.container) (rec_of F.Key.bytes added)) }
+        ensures { contents_of F.Key.WIDE self.new ≡ appended (contents_of F.Key.WIDE self.old) header.container (rec_of F.Key.bytes added.entry) }
     {
-        let width = self.width;
-        let base = self.base(container);
-        let count = self.records_in(container);
-        let used = self.bytes_in(container);
-        let at = base + (16 + count * (width + 8));
-        let tail = entry_tail(level, payload.len(), used);
-        let head = header(count + 1, used + payload.len());
-        put(
-            &mut self.bytes,
-            base + (16 + 63 * (width + 8) + used),
+        let Record {
+            level,
+            fingerprint,
             payload,
-        );
-        put(&mut self.bytes, at, fingerprint);
-        put(&mut self.bytes, at + width, &tail);
-        put(&mut self.bytes, base, &head);
+        } = added;
+        let len = payload.len();
+        let at = header.base + (HEADER + header.records * entry_size::<F>());
+        let tail = entry_tail(level, len, header.used);
+        let head = header_bytes(header.records + 1, header.used + len);
+        let end = header.base + (body_at::<F>() + header.used);
+        put(&mut self.bytes, end, payload);
+        put_key(&mut self.bytes, at, fingerprint);
+        put(&mut self.bytes, at + F::WIDE, &tail);
+        put(&mut self.bytes, header.base, &head);
     }
 
     // Empties a container: all its bytes are zero then.
-    pub(crate) fn clear_container(&mut self, container: usize)
-        requires { container < self.old.count }
-        ensures count { self.new.count ≡ self.old.count }
-        ensures width { self.new.width ≡ self.old.width }
-        ensures after { read_as self.new ≡ slice_set (read_as self.old) container [] }
+    pub(crate) fn clear_container(&mut self, header: Header)
+        requires { Headed F.Key.WIDE self.old header }
+        ensures { contents_of F.Key.WIDE self.new ≡ erased (contents_of F.Key.WIDE self.old) header.container }
     {
-        let base = self.base(container);
-        let size = 16 + 63 * (self.width + 8) + 7168;
-        zero(&mut self.bytes, base, base + size);
+        zero(
+            &mut self.bytes,
+            header.base,
+            header.base + container_size::<F>(),
+        );
     }
 }
 
-// Makes all bytes zero.
-fn blank(bytes: &mut [u8])
-    ensures { bytes.new ≡ replicate (length bytes.old) 0 }
-{
-    bytes.fill(0);
-}
-
 // Makes the bytes from `from` up to `end` zero.
-pub(crate) fn zero(bytes: &mut Vec<u8>, from: usize, end: usize)
+fn zero(bytes: &mut Vec<u8>, from: usize, end: usize)
     requires order { from ≤ end }
     requires inside { end ≤ length bytes.old.items }
     ensures { bytes.new.items ≡ written from (replicate (end - from) 0) bytes.old.items }
 {
-    blank(&mut bytes[from..end]);
+    (&mut bytes[from..end]).fill(0);
 }

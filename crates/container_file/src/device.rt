@@ -1,14 +1,15 @@
 // The container file's answers as a device. A refused change writes no byte.
 ghost use Rattle.std.specs.Prelude.{◌≡◌, false, is_ok};
+ghost use Rattle.records.specs.Records.{rec_of};
 ghost use Rattle.devices.specs.Changes.{append_answer, append_after, erase_answer, erased};
 ghost use Rattle.container_file.specs.Meaning.{contents_of};
 ghost use Rattle.container_file.specs.Held.{held-file};
 
 use crate::changes::copy;
 use crate::file::ContainerFile;
-use devices::Device;
+use devices::{Device, is_storable, joins};
 use keys::Fingerprint;
-use records::{Cause, Place, Refusal};
+use records::{Cause, Place, Record, Refusal};
 
 impl<F: Fingerprint> Device for ContainerFile<F> {
     type Kind = F;
@@ -22,24 +23,18 @@ impl<F: Fingerprint> Device for ContainerFile<F> {
     }
 
     fn records(&self, container: usize) -> Result<usize, Refusal> {
-        if !self.has(container) {
-            return Err(Refusal::from(Cause::NoSuchPlace));
-        }
-        Ok(self.records_in(container))
+        let header = self.header(container).ok_or(Cause::NoSuchPlace)?;
+        Ok(header.records)
     }
 
     fn payload_bytes(&self, container: usize) -> Result<usize, Refusal> {
-        if !self.has(container) {
-            return Err(Refusal::from(Cause::NoSuchPlace));
-        }
-        Ok(self.bytes_in(container))
+        let header = self.header(container).ok_or(Cause::NoSuchPlace)?;
+        Ok(header.used)
     }
 
     fn level(&self, place: Place) -> Result<u8, Refusal> {
-        match self.entry(place) {
-            Some(at) => Ok(self.bytes[at + self.width]),
-            None => Err(Refusal::from(Cause::NoSuchPlace)),
-        }
+        let at = self.entry(place).ok_or(Cause::NoSuchPlace)?;
+        Ok(self.bytes[at + F::WIDE])
     }
 
     fn fingerprint(&self, place: Place) -> Result<F, Refusal> {
@@ -48,19 +43,17 @@ impl<F: Fingerprint> Device for ContainerFile<F> {
     }
 
     fn payload_len(&self, place: Place) -> Result<usize, Refusal> {
-        match self.span(place) {
-            Some((_, len)) => Ok(len),
-            None => Err(Refusal::from(Cause::NoSuchPlace)),
-        }
+        let span = self.span(place).ok_or(Cause::NoSuchPlace)?;
+        Ok(span.len())
     }
 
     fn payload(&self, place: Place, to: &mut [u8]) -> Result<usize, Refusal> {
         let part = self.part(place)?;
         let len = part.len();
         if to.len() < len {
-            return Err(Refusal::from(Cause::TooShort));
+            return Err(Cause::TooShort.into());
         }
-        copy(&mut to[0..len], part);
+        copy(&mut to[..len], part);
         Ok(len)
     }
 
@@ -68,29 +61,20 @@ impl<F: Fingerprint> Device for ContainerFile<F> {
         self.first_of(fingerprint)
     }
 
-    fn append(
-        &mut self,
-        container: usize,
-        level: u8,
-        fingerprint: F,
-        payload: &[u8],
-    ) -> Result<(), Refusal>
-        ensures answer { result ≡ append_answer (contents_of F.Key.WIDE self.old) container (record { level = level; fingerprint = F.Key.bytes fingerprint; payload = payload.now }) }
-        ensures after { contents_of F.Key.WIDE self.new ≡ append_after (contents_of F.Key.WIDE self.old) container (record { level = level; fingerprint = F.Key.bytes fingerprint; payload = payload.now }) }
+    fn append(&mut self, container: usize, added: Record<'_, F>) -> Result<(), Refusal>
+        ensures answer { result ≡ append_answer (contents_of F.Key.WIDE self.old) container (rec_of F.Key.bytes added.entry) }
+        ensures after { contents_of F.Key.WIDE self.new ≡ append_after (contents_of F.Key.WIDE self.old) container (rec_of F.Key.bytes added.entry) }
         ensures untouched { is_ok result ≡ false → self.new.bytes ≡ self.old.bytes }
     {
-        if !self.has(container) {
-            return Err(Refusal::from(Cause::NoSuchPlace));
+        let header = self.header(container).ok_or(Cause::NoSuchPlace)?;
+        let len = added.payload.len();
+        if !is_storable(added.level, len) {
+            return Err(Cause::Shape.into());
         }
-        if level > 6 || payload.len() < 1 || payload.len() > 1280 {
-            return Err(Refusal::from(Cause::Shape));
+        if !joins(header.records, header.used, len) {
+            return Err(Cause::ContainerFull.into());
         }
-        if !self.takes(container, payload.len()) {
-            return Err(Refusal::from(Cause::ContainerFull));
-        }
-        let mut name = [0u8; 20];
-        let _ = fingerprint.write(&mut name);
-        self.write_record(container, level, &name[0..F::WIDE], payload);
+        self.write_record(header, added);
         Ok(())
     }
 
@@ -99,10 +83,8 @@ impl<F: Fingerprint> Device for ContainerFile<F> {
         ensures after { contents_of F.Key.WIDE self.new ≡ erased (contents_of F.Key.WIDE self.old) container }
         ensures untouched { is_ok result ≡ false → self.new.bytes ≡ self.old.bytes }
     {
-        if !self.has(container) {
-            return Err(Refusal::from(Cause::NoSuchPlace));
-        }
-        self.clear_container(container);
+        let header = self.header(container).ok_or(Cause::NoSuchPlace)?;
+        self.clear_container(header);
         Ok(())
     }
 }

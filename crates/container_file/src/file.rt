@@ -2,12 +2,12 @@
 ghost use Rattle.std.specs.Prelude.{◌≤◌};
 ghost use Rattle.container_format.specs.Checking.{Intact};
 
-use keys::Fingerprint;
 use std::marker::PhantomData;
 
 // The bytes, how many containers they are, and the width they were checked at.
+// The width is kept beside the kind: a ghost field that cites a bound does not work in a struct that owns a `Vec`.
 #[derive(Drop)]
-pub struct ContainerFile<F: Fingerprint> {
+pub struct ContainerFile<F> {
     pub(crate) bytes: Vec<u8>,
     pub(crate) count: usize,
     pub(crate) width: usize,

@@ -4,6 +4,7 @@
 pub mod changes;
 pub mod device;
 pub mod file;
+mod header;
 pub mod questions;
 
 pub use file::ContainerFile;

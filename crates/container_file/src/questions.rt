@@ -1,31 +1,31 @@
 // Making a file, and finding a record in it.
-ghost use Rattle.std.specs.Prelude.{◌≡◌, ◌+◌, ◌*◌, ◌<◌, ◌≤◌, T, [], length, None, nat_lt, slice_index_or};
+ghost use Rattle.std.specs.Prelude.{◌≡◌, ◌<◌, ◌≤◌, [], length, None};
 ghost use Rattle.std.specs.Result.{result_ok};
 ghost use Rattle.records.specs.Limits.{Limits};
-ghost use Rattle.records.specs.Records.{Contents, payload_bytes, place_among, first_place};
+ghost use Rattle.records.specs.Records.{Contents, place_among, first_place};
 ghost use Rattle.devices.specs.Questions.{of_record, records_of};
-ghost use Rattle.container_format.specs.Checking.{NoFile};
-ghost use Rattle.container_format.specs.Layout.{container_size, body_at, file};
-ghost use Rattle.container_file.specs.Meaning.{read_as, contents_of, answered, Entered, Spanned, LaidOut};
+ghost use Rattle.container_format.specs.Checking.{NoFile, Intact};
+ghost use Rattle.container_format.specs.Layout.{file};
+ghost use Rattle.container_format.specs.Reading.{read_file};
+ghost use Rattle.container_file.specs.Meaning.{contents_of, answered, Found, Entered, Spanned, LaidOut};
 
-use crate::changes::zero;
 use crate::file::ContainerFile;
-use container_format::{check, has_length, u16_at, u32_at};
+use crate::header::Header;
+use container_format::{
+    HEADER, body_at, check, container_size, entry_size, has_length, u16_at, u32_at,
+};
 use keys::Fingerprint;
 use records::{Cause, Place, Refusal};
 use std::marker::PhantomData;
+use std::ops::Range;
 
 impl<F: Fingerprint> ContainerFile<F> {
-    // Over some bytes: the containers of the file that they are, or no containers where they are none.
-    pub fn over(bytes: Vec<u8>) -> Self
+    // The device over bytes that are so many containers.
+    fn of(bytes: Vec<u8>, count: usize) -> Self
+        requires { Intact F.Key.WIDE count bytes.items }
         ensures bytes { result.bytes ≡ bytes }
-        ensures holds { (cs : Contents) → Limits F.Key.WIDE cs → bytes.items ≡ file F.Key.WIDE cs → contents_of F.Key.WIDE result ≡ cs }
-        ensures refused { NoFile F.Key.WIDE bytes.items → contents_of F.Key.WIDE result ≡ [] }
+        ensures holds { contents_of F.Key.WIDE result ≡ read_file F.Key.WIDE count bytes.items }
     {
-        let count = match check::<F>(&bytes) {
-            Ok(count) => count,
-            Err(_) => 0,
-        };
         ContainerFile {
             bytes,
             count,
@@ -34,22 +34,25 @@ impl<F: Fingerprint> ContainerFile<F> {
         }
     }
 
+    // Over some bytes: the containers of the file that they are, or no containers where they are none.
+    pub fn over(bytes: Vec<u8>) -> Self
+        ensures bytes { result.bytes ≡ bytes }
+        ensures holds { (cs : Contents) → Limits F.Key.WIDE cs → bytes.items ≡ file F.Key.WIDE cs → contents_of F.Key.WIDE result ≡ cs }
+        ensures refused { NoFile F.Key.WIDE bytes.items → contents_of F.Key.WIDE result ≡ [] }
+    {
+        let count = check::<F>(&bytes).unwrap_or(0);
+        Self::of(bytes, count)
+    }
+
     // Lays out `count` free containers over given bytes, which are zero then; else the bytes come back as they were.
-    pub fn lay_out(bytes: Vec<u8>, count: usize) -> Result<Self, (Refusal, Vec<u8>)>
+    pub fn lay_out(mut bytes: Vec<u8>, count: usize) -> Result<Self, (Refusal, Vec<u8>)>
         ensures { LaidOut F.Key.WIDE count bytes result }
     {
         if !has_length::<F>(bytes.len(), count) {
-            return Err((Refusal::from(Cause::Size), bytes));
+            return Err((Cause::Size.into(), bytes));
         }
-        let mut bytes = bytes;
-        let end = bytes.len();
-        zero(&mut bytes, 0, end);
-        Ok(ContainerFile {
-            bytes,
-            count,
-            width: F::WIDE,
-            kind: PhantomData,
-        })
+        bytes.fill(0);
+        Ok(Self::of(bytes, count))
     }
 
     // The bytes: the one file of what it holds, where it holds containers.
@@ -65,93 +68,54 @@ impl<F: Fingerprint> ContainerFile<F> {
         ensures count { result ≡ length (contents_of F.Key.WIDE self.now) }
         ensures own { 0 < result → (self.now.width ≡ F.Key.WIDE) × (result ≡ self.now.count) }
     {
-        if self.width == F::WIDE {
-            self.count
-        } else {
-            0
+        if self.width == F::WIDE { self.count } else { 0 }
+    }
+
+    // The header of a container, if there is such a container.
+    pub(crate) fn header(&self, container: usize) -> Option<Header>
+        ensures { Found F.Key.WIDE self.now container result }
+    {
+        if container >= self.containers() {
+            return None;
         }
-    }
-
-    // Whether there is such a container.
-    pub(crate) fn has(&self, container: usize) -> bool
-        ensures answer { result ≡ nat_lt container (length (contents_of F.Key.WIDE self.now)) }
-        ensures own { T result → (self.now.width ≡ F.Key.WIDE) × (container < self.now.count) }
-    {
-        container < self.containers()
-    }
-
-    // Where a container begins.
-    pub(crate) fn base(&self, container: usize) -> usize
-        requires { container < self.now.count }
-        ensures value { result ≡ container * container_size self.now.width }
-        ensures small { result ≤ 300000 }
-        ensures inside { result + container_size self.now.width ≤ length self.now.bytes.items }
-    {
-        container * (16 + 63 * (self.width + 8) + 7168)
-    }
-
-    // How many records a container has.
-    pub(crate) fn records_in(&self, container: usize) -> usize
-        requires { container < self.now.count }
-        ensures value { result ≡ length (slice_index_or (read_as self.now) container []) }
-        ensures bound { result ≤ 63 }
-    {
-        u16_at(&self.bytes, self.base(container))
-    }
-
-    // How many payload bytes they have.
-    pub(crate) fn bytes_in(&self, container: usize) -> usize
-        requires { container < self.now.count }
-        ensures value { result ≡ payload_bytes (slice_index_or (read_as self.now) container []) }
-        ensures bound { result ≤ 7168 }
-    {
-        u16_at(&self.bytes, self.base(container) + 2)
-    }
-
-    // Whether a container takes one more record with a payload of `len` bytes.
-    pub(crate) fn takes(&self, container: usize, len: usize) -> bool
-        requires here { container < self.now.count }
-        requires small { len ≤ 1280 }
-        ensures yes { T result → (length (slice_index_or (read_as self.now) container []) < 63) × (payload_bytes (slice_index_or (read_as self.now) container []) + len ≤ 7168) }
-        ensures no { length (slice_index_or (read_as self.now) container []) < 63 → payload_bytes (slice_index_or (read_as self.now) container []) + len ≤ 7168 → T result }
-    {
-        self.records_in(container) < 63 && self.bytes_in(container) + len <= 7168
+        let base = container * container_size::<F>();
+        Some(Header {
+            container,
+            base,
+            records: u16_at(&self.bytes, base),
+            used: u16_at(&self.bytes, base + 2),
+        })
     }
 
     // Where the entry of a record begins, if there is such a record.
     pub(crate) fn entry(&self, place: Place) -> Option<usize>
         ensures { Entered F.Key.WIDE self.now place result }
     {
-        if place.container >= self.containers() {
+        let header = self.header(place.container)?;
+        if place.index >= header.records {
             return None;
         }
-        if place.index >= self.records_in(place.container) {
-            return None;
-        }
-        Some(self.base(place.container) + (16 + place.index * (self.width + 8)))
+        Some(header.base + (HEADER + place.index * entry_size::<F>()))
     }
 
-    // Where a record's payload begins, at the offset that its entry names, and how long it is.
-    pub(crate) fn span(&self, place: Place) -> Option<(usize, usize)>
+    // Where a record's payload lies: it begins at the offset that its entry names.
+    pub(crate) fn span(&self, place: Place) -> Option<Range<usize>>
         ensures { Spanned F.Key.WIDE self.now place result }
     {
+        let header = self.header(place.container)?;
         let at = self.entry(place)?;
-        let len = u16_at(&self.bytes, at + (self.width + 2));
-        let offset = u32_at(&self.bytes, at + (self.width + 4));
-        Some((
-            self.base(place.container) + (16 + 63 * (self.width + 8)) + offset,
-            len,
-        ))
+        let len = u16_at(&self.bytes, at + (F::WIDE + 2));
+        let offset = u32_at(&self.bytes, at + (F::WIDE + 4));
+        let from = header.base + body_at::<F>() + offset;
+        Some(from..from + len)
     }
 
     // A record's payload: the part of the file that begins at the offset its entry names.
     pub fn part(&self, place: Place) -> Result<&[u8], Refusal>
         ensures { answered (λ x. x.now) result ≡ of_record (λ x. x.payload) (contents_of F.Key.WIDE self.now) place }
     {
-        match self.span(place) {
-            Some((from, len)) => Ok(&self.bytes[from..from + len]),
-            None => Err(Refusal::from(Cause::NoSuchPlace)),
-        }
+        let span = self.span(place).ok_or(Cause::NoSuchPlace)?;
+        Ok(&self.bytes[span])
     }
 
     // A record's fingerprint, if there is such a record.
@@ -166,29 +130,23 @@ impl<F: Fingerprint> ContainerFile<F> {
     fn first_in(&self, container: usize, fingerprint: F) -> Option<Place>
         ensures { result ≡ place_among (F.Key.bytes fingerprint) container 0 (records_of (contents_of F.Key.WIDE self.now) container) None }
     {
-        for index in 0..63usize {
-            let place = Place { container, index };
-            match self.fingerprint_at(place) {
-                Some(found) => {
-                    if found.same(fingerprint) {
-                        return Some(place);
-                    }
-                }
-                None => return None,
-            }
-        }
-        None
+        let header = self.header(container)?;
+        (0..header.records)
+            .find(|index| {
+                let place = Place {
+                    container,
+                    index: *index,
+                };
+                self.fingerprint_at(place)
+                    .is_some_and(|found| found == fingerprint)
+            })
+            .map(|index| Place { container, index })
     }
 
     // The first place of a fingerprint in the file, if any.
     pub(crate) fn first_of(&self, fingerprint: F) -> Option<Place>
         ensures { result ≡ first_place (contents_of F.Key.WIDE self.now) (F.Key.bytes fingerprint) }
     {
-        for container in 0..self.containers() {
-            if let Some(place) = self.first_in(container, fingerprint) {
-                return Some(place);
-            }
-        }
-        None
+        (0..self.containers()).find_map(|container| self.first_in(container, fingerprint))
     }
 }

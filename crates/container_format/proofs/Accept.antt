@@ -1,7 +1,7 @@
 -- A container that is in order is written of what it reads as.
 use Rattle.std.proofs.Common.{◌≡◌, ℕ, zero, suc, ◌+◌, ◌-◌, ◌*◌, ◌<◌, ◌≤◌, List, [], ◌∷◌, ◌++◌, length, get_or, take, drop, replicate, sym, refl, ap, ◌∙◌, subst, suc-mul, add-mul, arith}
 use Rattle.std.specs.List.{AllByRecursion}
-use Rattle.std.proofs.lemmas.List.{append_assoc, drop-drop, drop_more, take-append-le, drop-append-le, get_or_append_left, take-append-drop, length-append, length-take-le, length-drop}
+use Rattle.std.proofs.lemmas.List.{append_assoc, drop-drop, drop_more, take-append-le, drop-append-le, take-append-drop, length-append, length-take-le, length-drop}
 use Rattle.std.proofs.ByRecursion.{All-take, All-drop}
 use Rattle.keys.specs.Octets.{little, number}
 use Rattle.keys.specs.Little.{little-take}
@@ -11,6 +11,7 @@ use Rattle.records.specs.Records.{Rec}
 use Rattle.container_format.specs.Layout.{payloads, entry, entries, body_at, container_bytes, container_size}
 use Rattle.container_format.specs.Reading.{length_in, read_record, read_records, read_container}
 use Rattle.container_format.specs.Checking.{EntryOk, Zeros, EntriesOk, ContainerOk}
+use Rattle.container_format.proofs.Turn.{front_level, front_length}
 use Rattle.container_format.proofs.Round.{laid, laid_is, inside, stored_from}
 
 pub zeros_are : (xs : List ℕ) → Zeros xs → xs ≡ replicate (length xs) 0
@@ -122,11 +123,10 @@ read_front w zero es z bs l = refl
 read_front w (suc k) es z bs l =
     let sm = suc-mul k (w + 8) in
     let a : take w (es ++ z) ≡ take w es = take-append-le w es z (omega arith) in
-    let b : get_or (es ++ z) w 0 ≡ get_or es w 0 = get_or_append_left es z 0 w (omega arith) in
-    let c : drop (w + 2) (es ++ z) ≡ drop (w + 2) es ++ z = drop-append-le (w + 2) es z (omega arith) in
-    let d : take 2 (drop (w + 2) es ++ z) ≡ take 2 (drop (w + 2) es) = take-append-le 2 (drop (w + 2) es) z (simp length-drop (omega arith)) in
+    let long : w + 8 ≤ length es = omega arith in
+    let b = front_level w es z long in
     let e : drop (w + 8) (es ++ z) ≡ drop (w + 8) es ++ z = drop-append-le (w + 8) es z (omega arith) in
-    let n : length_in w (es ++ z) ≡ length_in w es = ap number (ap (take 2) c ∙ d) in
+    let n = front_length w es z long in
     let t = read_front w k (drop (w + 8) es) z (drop (length_in w es) bs) (simp length-drop (omega arith)) in
     cc
 

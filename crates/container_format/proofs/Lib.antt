@@ -1,7 +1,7 @@
-pub mod Fronts
+pub mod Chunks
 pub mod Round
-pub mod Accept
 pub mod Turn
+pub mod Accept
 pub mod Files
 pub mod Find
 pub mod Props

@@ -1,21 +1,17 @@
 -- That a file is intact has one proof at most, so a ghost field can carry it.
-use Rattle.std.proofs.Common.{ℕ, ◌<◌, List, [], ◌∷◌, refl}
+use Rattle.std.proofs.Common.{ℕ, ◌<◌, List}
 use mathlib.Core.List.{is_set}
 use mathlib.Core.Logic.{∥∥₁_elim}
 use native.Mathlib.Nat.{ℕ_set}
 use native.Mathlib.Bridge.{le_prop}
-use Rattle.std.specs.List.{AllByRecursion}
+use Rattle.std.specs.List.{AllByRecursion-prop}
 use Rattle.keys.specs.Octets.{Bytes}
 use Rattle.records.specs.Limits.{Typed, Storable, Fits, Stored}
 use Rattle.records.specs.Records.{Rec}
 use Rattle.container_format.specs.Checking.{Intact}
 
-prop_all : {X : Type 0} (P : X → Type 0) → ((x : X) → IsProp (P x)) → (xs : List X) → IsProp (AllByRecursion P xs)
-prop_all P h [] = λ a b. refl
-prop_all P h (x ∷ xs) = λ a b i. (h x a.0 b.0 i, prop_all P h xs a.1 b.1 i)
-
 prop_bytes : (xs : List ℕ) → IsProp (Bytes xs)
-prop_bytes xs = prop_all (λ b. b < 256) (λ x. le_prop) xs
+prop_bytes xs = AllByRecursion-prop (λ b. b < 256) (λ x. le_prop) xs
 
 prop_typed : (w : ℕ) (r : Rec) → IsProp (Typed w r)
 prop_typed w r a b i = record {
@@ -38,7 +34,7 @@ prop_fits rs a b i = record { count = le_prop a.count b.count i; bytes = le_prop
 prop_stored : (w : ℕ) (rs : List Rec) → IsProp (Stored w rs)
 prop_stored w rs a b i = record {
   fits = prop_fits rs a.fits b.fits i;
-  each = prop_all (Storable w) (prop_storable w) rs a.each b.each i;
+  each = AllByRecursion-prop (Storable w) (prop_storable w) rs a.each b.each i;
 }
 
 pub prop_intact : (w n : ℕ) (bs : List ℕ) → IsProp (Intact w n bs)
@@ -48,7 +44,7 @@ prop_intact w n bs a b i = record {
   long = le_prop a.long b.long i;
   exact = λ h. (le_prop (a.exact h).0 (b.exact h).0 i, ℕ_set _ _ (a.exact h).1 (b.exact h).1 i);
   bytes = is_set ℕ_set _ _ a.bytes b.bytes i;
-  each = prop_all (Stored w) (prop_stored w) _ a.each b.each i;
+  each = AllByRecursion-prop (Stored w) (prop_stored w) _ a.each b.each i;
 }
 
 -- what a ghost field holds, as a fact that can be used

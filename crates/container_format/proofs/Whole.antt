@@ -1,8 +1,8 @@
 -- What the check accepts is a file, and what it refuses is none.
-use Rattle.std.proofs.Common.{◌≡◌, ℕ, zero, suc, ◌+◌, ◌-◌, ◌*◌, ◌/◌, ◌<◌, ◌≤◌, List, [], ◌∷◌, ◌++◌, length, get_or, take, drop, replicate, Err, sym, refl, ap, ◌∙◌, subst, inl, inr, suc-mul, arith}
+use Rattle.std.proofs.Common.{◌≡◌, ℕ, zero, suc, ◌+◌, ◌-◌, ◌*◌, ◌/◌, ◌<◌, ◌≤◌, List, [], ◌∷◌, ◌++◌, length, get_or, take, drop, replicate, Err, sym, refl, ap, ◌∙◌, subst, inl, inr, suc-mul, zero-mul, add_comm, arith}
 use native.Mathlib.Nat.{eq_of_mul-eq-mul_right, mul-div_left}
 use Rattle.std.specs.List.{AllByRecursion}
-use Rattle.std.proofs.lemmas.List.{append_assoc, append-nil, take_at, drop_at, get_or_at, get_or-drop, length-append, length-drop, length-take-le, take-append-drop}
+use Rattle.std.proofs.lemmas.List.{append_assoc, take_at, drop_at, get_or_at, get_or-drop, length-append, length-drop, drop-drop, length-take-le, take-append-drop}
 use Rattle.std.proofs.ByRecursion.{All-take, All-drop}
 use Rattle.keys.specs.Octets.{number}
 use Rattle.keys.specs.Little.{number-little}
@@ -14,11 +14,10 @@ use Rattle.records.specs.declared.refusal.Cause.TheVariants.{Size, Layout}
 use Rattle.records.specs.declared.refusal.Refusal.{Refusal}
 use Rattle.container_format.specs.Layout.{payloads, entry, entries, body_at, container_size, container_bytes, file}
 use Rattle.container_format.specs.Reading.{length_in, read_file}
-use Rattle.container_format.specs.Checking.{EntryOk, Zeros, EntriesOk, ContainerOk, ContainersOk, IsFile, NoFile, NoCount, Count, Checked, Intact}
+use Rattle.container_format.specs.Checking.{EntryOk, Zeros, EntriesOk, ContainerOk, ContainersOk, IsFile, NoFile, NoCount, Count, Checked}
 use Rattle.container_format.proofs.Round.{laid, laid_is, length-laid, drop-laid, from_w, length_front, drop_header, drop_body, number-count, number-used, length_container, reads_back, used_fits}
 use Rattle.container_format.proofs.Accept.{accepts}
-use Rattle.container_format.proofs.Files.{length-file, length-read_file, intact_made}
-use Rattle.container_format.proofs.Turn.{less_one, row_more}
+use Rattle.container_format.proofs.Files.{length-file, length-read_file}
 
 zeros_replicate : (n : ℕ) → Zeros (replicate n 0)
 zeros_replicate zero = tt
@@ -138,41 +137,23 @@ size_refused w bs e is none = (no_list w bs none, inl (record { number = ap (λ 
 pub layout_refused : (w n : ℕ) (bs : List ℕ) (e : Refusal) → e ≡ untold Layout → Count w (length bs) n → (ContainersOk w n bs → ⊥) → Checked w bs (Err e)
 layout_refused w n bs e is count bad = (no_file w n bs count.length bad, inr (record { number = ap (λ x. number_of x.cause) is; place = ap (λ x. x.place) is }, (n, count)))
 
--- the loop over slots: i are passed
-pub record Passed (w n i : ℕ) (rest bs : List ℕ) : Type 0 where
-  pub long : length rest ≡ (n - i) * container_size w
-  pub back : ContainersOk w (n - i) rest → ContainersOk w n bs
-  pub on : ContainersOk w n bs → ContainersOk w (n - i) rest
+first_container : (w : ℕ) (bs : List ℕ) → drop (0 * container_size w) bs ≡ bs
+first_container w bs = ap (λ m. drop m bs) (zero-mul (container_size w))
 
-module _ (w n i : ℕ) (rest bs : List ℕ) (h : Passed w n i rest bs) (turn : i < n) where
-  pub container_space : container_size w ≤ length rest
-  container_space = let a = h.long in let b = row_more n i (container_size w) turn in omega (arith, a ∙ b)
+next_container : (w k : ℕ) (bs : List ℕ) → drop (suc k * container_size w) bs ≡ drop (k * container_size w) (drop (container_size w) bs)
+next_container w k bs = ap (λ m. drop m bs) (suc-mul k (container_size w) ∙ add_comm _ _) ∙ sym (drop-drop (k * container_size w) (container_size w) bs)
 
-  abbrev S : ℕ
-  S = container_size w
+-- n containers are in order where each is
+pub from_each : (w n : ℕ) (bs : List ℕ) → ((k : ℕ) → k < n → ContainerOk w (take (container_size w) (drop (k * container_size w) bs))) → ContainersOk w n bs
+from_each w zero bs h = tt
+from_each w (suc n) bs h = (subst (λ xs. ContainerOk w (take (container_size w) xs)) (first_container w bs) (h 0 (omega arith)), from_each w n (drop (container_size w) bs) (λ k l. subst (λ xs. ContainerOk w (take (container_size w) xs)) (next_container w k bs) (h (suc k) (omega arith))))
 
-  as_pair : ContainersOk w (n - i) rest ≡ ContainersOk w (suc (n - (i + 1))) rest
-  as_pair = ap (λ k. ContainersOk w k rest) (less_one n i turn)
-
-  pub passed_more : (rest' : List ℕ) → ContainerOk w (take S rest) → rest' ≡ drop S rest → Passed w n (i + 1) rest' bs
-  passed_more rest' ok is =
-      let b = h.long ∙ row_more n i S turn in
-      record {
-        long = ap length is ∙ length-drop S rest ∙ omega arith;
-        back = λ t. h.back (subst (λ X. X) (sym as_pair) (ok, subst (ContainersOk w (n - (i + 1))) is t));
-        on = λ t. subst (ContainersOk w (n - (i + 1))) (sym is) (subst (λ X. X) as_pair (h.on t)).1;
-      }
-
-  pub passed_not : (ContainerOk w (take S rest) → ⊥) → ContainersOk w n bs → ⊥
-  passed_not bad all = bad (subst (λ X. X) as_pair (h.on all)).0
-
-pub intact_file : (w n : ℕ) (bs : List ℕ) → w ≤ 20 → IsFile w n bs → Intact w n bs
-intact_file w n bs narrow f =
-    let cs = read_file w n bs in
-    let c = f.count in
-    let e : file w cs ++ [] ≡ bs = append-nil (file w cs) ∙ sym f.bytes in
-    let few = f.limits.few in
-    subst (Intact w n) e (intact_made w n cs [] f.limits.each c (omega arith) narrow (λ _. (let some = f.limits.some in omega arith, refl)))
-
-pub intact_none : (w : ℕ) (bs : List ℕ) → w ≤ 20 → Intact w 0 bs
-intact_none w bs narrow = intact_made w 0 [] bs tt refl (omega arith) narrow (λ h. absurd (omega arith))
+pub to_each : (w n : ℕ) (bs : List ℕ) → length bs ≡ n * container_size w → ContainersOk w n bs → (k : ℕ) → k * container_size w + container_size w ≤ length bs → ContainerOk w (take (container_size w) (drop (k * container_size w) bs))
+to_each w zero bs long ok k l = absurd (omega arith)
+to_each w (suc n) bs long ok zero l = subst (λ xs. ContainerOk w (take (container_size w) xs)) (sym (first_container w bs)) ok.0
+to_each w (suc n) bs long ok (suc k) l =
+    let S = container_size w in
+    let a = suc-mul n S in
+    let b = suc-mul k S in
+    let c = length-drop S bs in
+    subst (λ xs. ContainerOk w (take S xs)) (sym (next_container w k bs)) (to_each w n (drop S bs) (omega arith) ok.1 k (omega arith))

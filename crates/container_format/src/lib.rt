@@ -7,4 +7,4 @@ pub mod sizes;
 
 pub use acceptance::check;
 pub use numbers::{u16_at, u32_at};
-pub use sizes::{container_size, has_length};
+pub use sizes::{BODY, HEADER, RECORDS, body_at, container_size, entry_size, has_length};

@@ -1,37 +1,35 @@
 // Numbers in bytes, lowest byte first. Bytes past the end count as zero.
-ghost use Rattle.std.specs.Prelude.{◌≡◌, ◌^◌, ◌<◌, take, drop};
+ghost use Rattle.std.specs.Prelude.{◌≡◌, ◌++◌, take, drop, replicate};
 ghost use Rattle.keys.specs.Octets.{number};
 
 // The bytes from `at` on.
 fn tail(bytes: &[u8], at: usize) -> &[u8]
     ensures { result.now ≡ drop at bytes.now }
 {
-    if at >= bytes.len() { &[] } else { &bytes[at..] }
+    bytes.get(at..).unwrap_or(&[])
 }
 
-// The number in the first two bytes.
-fn front(bytes: &[u8]) -> usize
-    ensures value { result ≡ number (take 2 bytes.now) }
-    ensures bound { result < 2 ^ 16 }
+// The N bytes at `at`.
+fn bytes_at<const N: usize>(bytes: &[u8], at: usize) -> [u8; N]
+    ensures { result ≡ take N (drop at bytes.now ++ replicate N 0) }
 {
-    match bytes {
-        [low, high, ..] => *low as usize + 256 * *high as usize,
-        [low] => *low as usize,
-        _ => 0,
-    }
+    let rest = tail(bytes, at);
+    let end = rest.len().min(N);
+    let mut found = [0; N];
+    (&mut found[..end]).copy_from_slice(&rest[..end]);
+    found
 }
 
 // The number in the two bytes at `at`.
 pub fn u16_at(bytes: &[u8], at: usize) -> usize
     ensures { result ≡ number (take 2 (drop at bytes.now)) }
 {
-    front(tail(bytes, at))
+    usize::from(u16::from_le_bytes(bytes_at(bytes, at)))
 }
 
 // The number in the four bytes at `at`.
 pub fn u32_at(bytes: &[u8], at: usize) -> usize
     ensures { result ≡ number (take 4 (drop at bytes.now)) }
 {
-    let rest = tail(bytes, at);
-    front(rest) + 65536 * front(tail(rest, 2))
+    u32::from_le_bytes(bytes_at(bytes, at)) as usize
 }

@@ -1,11 +1,27 @@
--- The count of the free containers, as containers change.
-use Rattle.std.proofs.Common.{◌≡◌, ℕ, zero, suc, ◌+◌, ◌<◌, ◌≤◌, List, [], ◌∷◌, ◌++◌, length, set, ap, ⊎_elim, arith}
-use Rattle.std.proofs.lemmas.List.{nil_from_length, length_push}
-use Rattle.std.proofs.lemmas.Bool.{cases_lt, cond-false, ne_eqb}
+-- The count of the free containers, by their numbers and as containers change.
+use Rattle.std.proofs.Common.{◌≡◌, ℕ, suc, ◌+◌, ◌<◌, ◌≤◌, cond, ◌&&◌, List, [], ◌∷◌, ◌++◌, length, map, sum, count_by, sym, ap, ◌∙◌, ⊎_elim, arith}
+use Rattle.std.specs.List.{range_with_len}
+use Rattle.std.proofs.lemmas.List.{nil_from_length, length_push, length-map, get_or-map}
+use Rattle.std.proofs.lemmas.List.FromFn.{fill_by_all}
+use Rattle.std.proofs.lemmas.List.Sums.{sum-map, sum_by-cons, sum_by-set}
+use Rattle.std.proofs.lemmas.Bool.{cases_lt, cond-false, ne_eqb, lt-ltb}
 use Rattle.records.specs.Records.{Rec, Contents}
-use Rattle.devices.specs.Questions.{records_of}
+use Rattle.devices.specs.Questions.{records_of, unused, is_free}
 use Rattle.devices.specs.Changes.{appended}
-use Rattle.placing.specs.Openings.{unused, share, free_count, Free}
+use Rattle.placing.specs.Openings.{free_count, Free}
+
+-- what a container adds to the count
+abbrev share : List Rec → ℕ
+share rs = cond (unused rs) 1 0
+
+-- as many numbers are those of free containers as containers are free
+pub counted_by_number : (cs : Contents) → count_by (is_free cs) (range_with_len 0 (length cs)) ≡ free_count cs
+counted_by_number cs =
+    let by_number : ℕ → ℕ = λ c. cond (is_free cs c) 1 0 in
+    let same : map share cs ≡ map by_number (range_with_len 0 (length cs)) =
+    fill_by_all by_number (map share cs) (length cs) 0 (length-map cs share) (λ c h. get_or-map share cs c [] 0 h ∙ ap (λ b. cond (b && unused (records_of cs c)) 1 0) (sym (lt-ltb c (length cs) h)))
+    in
+    sym (sum-map by_number (range_with_len 0 (length cs))) ∙ ap sum (sym same) ∙ sum-map share cs
 
 -- a container with records adds nothing
 share-used : (rs : List Rec) → 0 < length rs → share rs ≡ 0
@@ -16,22 +32,16 @@ pub some_free_lem : (cs : Contents) → 0 < free_count cs → (c : ℕ) × Free 
 some_free_lem [] h = absurd (omega arith)
 some_free_lem (rs ∷ cs) h =
     ⊎_elim
-    (λ (n : 0 < length rs). let z = share-used rs n in let t = some_free_lem cs (omega arith) in let here = t.1.here in (suc t.0, record { here = omega arith; none = t.1.none }))
+    (λ (n : 0 < length rs). let z = share-used rs n in let t = some_free_lem cs (omega (arith, sum_by-cons share rs cs)) in let here = t.1.here in (suc t.0, record { here = omega arith; none = t.1.none }))
     (λ (n : length rs ≤ 0). (0, record { here = omega arith; none = nil_from_length rs (omega arith) }))
     (cases_lt 0 (length rs))
-
--- where one container changes, the count changes by what that adds
-count_set : (cs : Contents) (c : ℕ) (rs : List Rec) → c < length cs → free_count (set cs c rs) + share (records_of cs c) ≡ free_count cs + share rs
-count_set [] c rs h = absurd (omega arith)
-count_set (x ∷ cs) zero rs h = omega arith
-count_set (x ∷ cs) (suc c) rs h = let t = count_set cs c rs (omega arith) in omega arith
 
 -- a container that gets a record adds nothing after
 count-append : (cs : Contents) (c : ℕ) (r : Rec) → c < length cs → free_count (appended cs c r) + share (records_of cs c) ≡ free_count cs
 count-append cs c r h =
     let n = length_push (records_of cs c) r in
     let z = share-used (records_of cs c ++ r ∷ []) (omega arith) in
-    let t = count_set cs c (records_of cs c ++ r ∷ []) h in
+    let t = sum_by-set share cs c (records_of cs c ++ r ∷ []) [] h in
     omega arith
 
 -- a record more in a container that has some: as many are free as before

@@ -1,5 +1,4 @@
-pub mod Searching
+pub mod Counts
 pub mod Round
 pub mod Rules
-pub mod Counts
 pub mod Outcomes

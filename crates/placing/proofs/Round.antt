@@ -3,8 +3,10 @@ use Rattle.std.proofs.Common.{◌≡◌, ℕ, zero, suc, ◌+◌, ◌-◌, ◌<�
 use Rattle.std.proofs.lemmas.List.{nil_from_length}
 use Rattle.std.proofs.lemmas.Bool.{ltb-true, eqb-true, lt-ltb, le-ltb, eq-eqb, cases_lt, and_parts, and_from, both_ways, cond_both}
 use Rattle.records.specs.Records.{Contents}
-use Rattle.devices.specs.Questions.{records_of}
-use Rattle.placing.specs.Openings.{unused, is_free, free_among, free_in, behind, or_else, next_free, Free, Before, up, across, round}
+use Rattle.std.specs.List.{range_with_len, find}
+use Rattle.std.specs.Option.{option_or}
+use Rattle.devices.specs.Questions.{records_of, unused, is_free}
+use Rattle.placing.specs.Openings.{free_in, behind, next_free, Free, Before, up, across, round}
 
 -- the question answers yes of exactly the free containers
 pub free_true : (cs : Contents) (c : ℕ) → is_free cs c ≡ true → Free cs c
@@ -28,7 +30,7 @@ Found cs a b None = (k : ℕ) → a ≤ k → k < b → Free cs k → ⊥
 Found cs a b (Some c) = FirstIn cs a b c
 
 -- where a itself is not free, a free container from a on stands behind it
-past_used : (cs : Contents) (a k : ℕ) → (Free cs a → ⊥) → a ≤ k → Free cs k → suc a ≤ k
+past_used : (cs : Contents) (a k : ℕ) → (Free cs a → ⊥) → a ≤ k → Free cs k → a + 1 ≤ k
 past_used cs a k used low free =
     ⊎_elim
     (λ (l : a < k). omega arith)
@@ -36,18 +38,19 @@ past_used cs a k used low free =
     (cases_lt a k)
 
 -- so a search from a on finds what one from the next on finds
-from_next : (cs : Contents) (a b : ℕ) (o : Option ℕ) → (Free cs a → ⊥) → Found cs (suc a) b o → Found cs a b o
+from_next : (cs : Contents) (a b : ℕ) (o : Option ℕ) → (Free cs a → ⊥) → Found cs (a + 1) b o → Found cs a b o
 from_next cs a b None used f = λ k low high free. f k (past_used cs a k used low free) high free
 from_next cs a b (Some c) used f =
     let l = f.low in
     record { free = f.free; low = omega arith; high = f.high; first = λ k low high free. f.first k (past_used cs a k used low free) high free }
 
-found_among : (cs : Contents) (a b n : ℕ) → n ≡ b - a → Found cs a b (free_among cs a n)
+found_among : (cs : Contents) (a b n : ℕ) → n ≡ b - a → Found cs a b (find (is_free cs) (range_with_len a n))
 found_among cs a b zero e = λ k low high free. absurd (omega arith)
 found_among cs a b (suc n) e =
-    cond_both (is_free cs a) (Some a) (free_among cs (suc a) n) (Found cs a b)
+    let later = find (is_free cs) (range_with_len (a + 1) n) in
+    cond_both (is_free cs a) (Some a) later (Found cs a b)
     (λ t. record { free = free_true cs a t; low = omega arith; high = omega arith; first = λ k low high free. absurd (omega arith) })
-    (λ f. from_next cs a b (free_among cs (suc a) n) (λ free. both_ways (is_free cs a) f (true_free cs a free)) (found_among cs (suc a) b n (omega arith)))
+    (λ f. from_next cs a b later (λ free. both_ways (is_free cs a) f (true_free cs a free)) (found_among cs (a + 1) b n (omega arith)))
 
 found_in : (cs : Contents) (a b : ℕ) → Found cs a b (free_in cs a b)
 found_in cs a b = found_among cs a b (b - a) refl
@@ -83,7 +86,7 @@ module _ (cs : Contents) (last s : ℕ) (start : ((last < length cs) × (s ≡ l
   second_half c k none f (across a b) free = none k (⊎_elim (λ x. omega arith) (λ x. omega arith) start) free.here free
   second_half c k none f (round a b) free = f.first k (omega arith) a free
 
-  halves : (o p : Option ℕ) → Found cs s (length cs) o → Found cs 0 s p → FoundRound cs last (or_else o p)
+  halves : (o p : Option ℕ) → Found cs s (length cs) o → Found cs 0 s p → FoundRound cs last (option_or o p)
   halves None None f g = λ k free. ⊎_elim (λ h. g k (omega arith) h free) (λ h. f k h free.here free) (cases_lt k s)
   halves None (Some c) f g = record { free = g.free; first = λ k b free. second_half c k f g b free }
   halves (Some c) p f g = record { free = f.free; first = λ k b free. first_half c k f b free }

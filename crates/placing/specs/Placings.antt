@@ -1,28 +1,29 @@
 -- Where a new record goes, as an equation and as a rule.
-use Rattle.std.specs.Prelude.{◌≡◌, ℕ, ◌+◌, ◌<◌, ◌≤◌, Bool, cond, ◌&&◌, length, Some, None, Option, nat_le, nat_lt}
+use Rattle.std.specs.Prelude.{◌≡◌, ℕ, ◌+◌, ◌<◌, ◌≤◌, Bool, cond, ◌&&◌, length, Some, None, Option, option_map, nat_le, nat_lt}
+use Rattle.std.specs.Option.{option_or}
 use Rattle.records.specs.Records.{Contents, payload_bytes}
 use Rattle.devices.specs.Questions.{records_of}
 use Rattle.placing.specs.Openings.{free_count, next_free, Free, Before}
 use Rattle.placing.specs.declared.choosing.Choice.{Choice}
-use Rattle.placing.specs.declared.choosing.Choice.TheVariants.{Stays, Opens, NoPlace}
+use Rattle.placing.specs.declared.choosing.Choice.TheVariants.{Stays, Opens}
+use Rattle.placing.specs.declared.filling.Filling.{Filling}
 
 -- whether a container is there and takes a record of len payload bytes
 abbrev pub has_space : Contents → ℕ → ℕ → Bool
 has_space cs c len = nat_lt c (length cs) && (nat_lt (length (records_of cs c)) 63 && nat_le (payload_bytes (records_of cs c) + len) 7168)
 
--- a container that is found is opened
-abbrev pub to_open : Option ℕ → Choice
-to_open None = NoPlace
-to_open (Some c) = Opens c
+-- the open container, if that takes the record
+abbrev pub staying : Contents → Option ℕ → ℕ → Option Choice
+staying cs None len = None
+staying cs (Some c) len = cond (has_space cs c len) (Some (Stays c)) None
 
--- the next free container, if more than spare are free
-abbrev pub opening : Contents → ℕ → ℕ → Choice
-opening cs last spare = cond (nat_le (free_count cs) spare) NoPlace (to_open (next_free cs last))
+-- the next free container is opened, if more than spare are free
+abbrev pub opening : Contents → ℕ → ℕ → Option Choice
+opening cs last spare = cond (nat_le (free_count cs) spare) None (option_map Opens (next_free cs last))
 
 -- the open container if that takes the record, else the next free one
-abbrev pub chosen : Contents → Option ℕ → ℕ → ℕ → ℕ → Choice
-chosen cs None last spare len = opening cs last spare
-chosen cs (Some c) last spare len = cond (has_space cs c len) (Stays c) (opening cs last spare)
+abbrev pub chosen : Contents → Filling → ℕ → ℕ → Option Choice
+chosen cs f spare len = option_or (staying cs f.current len) (opening cs f.last spare)
 
 -- a container that is there and takes a record of len payload bytes
 pub record Space (cs : Contents) (c len : ℕ) : Type 0 where
@@ -40,11 +41,11 @@ pub record Stayed (cs : Contents) (o : Option ℕ) (len c : ℕ) : Type 0 where
   pub space : Space cs c len
 
 -- c is opened: more than spare are free, and c is the first of them on the way round
-pub record Opened (cs : Contents) (o : Option ℕ) (last spare len c : ℕ) : Type 0 where
-  pub full : Full cs o len
+pub record Opened (cs : Contents) (f : Filling) (spare len c : ℕ) : Type 0 where
+  pub full : Full cs f.current len
   pub many : spare < free_count cs
   pub free : Free cs c
-  pub first : (k : ℕ) → Before last k c → Free cs k → ⊥
+  pub first : (k : ℕ) → Before f.last k c → Free cs k → ⊥
 
 -- nothing takes the record: at most spare are free, so none may be opened
 pub record Nowhere (cs : Contents) (o : Option ℕ) (spare len : ℕ) : Type 0 where
@@ -52,7 +53,7 @@ pub record Nowhere (cs : Contents) (o : Option ℕ) (spare len : ℕ) : Type 0 w
   pub few : free_count cs ≤ spare
 
 -- what a choice says of the containers
-abbrev pub Rule : Contents → Option ℕ → ℕ → ℕ → ℕ → Choice → Type 0
-Rule cs o last spare len (Stays c) = Stayed cs o len c
-Rule cs o last spare len (Opens c) = Opened cs o last spare len c
-Rule cs o last spare len NoPlace = Nowhere cs o spare len
+abbrev pub Rule : Contents → Filling → ℕ → ℕ → Option Choice → Type 0
+Rule cs f spare len None = Nowhere cs f.current spare len
+Rule cs f spare len (Some (Stays c)) = Stayed cs f.current len c
+Rule cs f spare len (Some (Opens c)) = Opened cs f spare len c

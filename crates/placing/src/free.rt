@@ -1,42 +1,23 @@
-// Free containers: whether one is, how many are, and which is next.
+// Free containers: how many there are, and which is next.
 ghost use Rattle.std.specs.Prelude.{◌≡◌};
-ghost use Rattle.placing.specs.Openings.{is_free, free_count, free_in, behind, next_free};
+ghost use Rattle.placing.specs.Openings.{free_count, free_in, behind, next_free};
 
-use devices::Device;
-
-// Whether a container is there and has no records.
-fn is_free<D: Device>(device: &D, container: usize) -> bool
-    ensures { result ≡ is_free (D.Device.contents device.now) container }
-{
-    match device.records(container) {
-        Ok(records) => records == 0,
-        Err(_) => false,
-    }
-}
+use devices::{Device, is_free};
 
 // How many containers are free.
 pub fn free_count<D: Device>(device: &D) -> usize
     ensures { result ≡ free_count (D.Device.contents device.now) }
 {
-    let mut free = 0;
-    for container in 0..device.count() {
-        if is_free(device, container) {
-            free += 1;
-        }
-    }
-    free
+    (0..device.count())
+        .filter(|container| is_free(device, *container))
+        .count()
 }
 
 // The first free container from `from` to before `to`, if any.
 fn free_in<D: Device>(device: &D, from: usize, to: usize) -> Option<usize>
     ensures { result ≡ free_in (D.Device.contents device.now) from to }
 {
-    for container in from..to {
-        if is_free(device, container) {
-            return Some(container);
-        }
-    }
-    None
+    (from..to).find(|container| is_free(device, *container))
 }
 
 // Where the way round begins: behind `last`, or at the first container where `last` is none of the `count`.
@@ -52,8 +33,5 @@ pub(crate) fn next_free<D: Device>(device: &D, last: usize) -> Option<usize>
 {
     let count = device.count();
     let start = way_start(last, count);
-    match free_in(device, start, count) {
-        Some(container) => Some(container),
-        None => free_in(device, 0, start),
-    }
+    free_in(device, start, count).or_else(|| free_in(device, 0, start))
 }

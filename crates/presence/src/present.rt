@@ -1,6 +1,7 @@
 // What a store holds of a record.
 
-#[derive(Clone, Copy)]
+// A caller treats each of the three differently, so a Result or an Option of a bool would be no plainer.
+#[derive(Clone, Copy, Debug, PartialEq, Eq)]
 pub enum Presence {
     // Its fingerprint is not stored.
     Absent,

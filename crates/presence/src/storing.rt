@@ -1,14 +1,18 @@
 // Looking for a record.
-ghost use Rattle.std.specs.Prelude.{◌≡◌, ◌&&◌, if◌then◌else◌, nat_eq};
+ghost use Rattle.std.specs.Prelude.{◌≡◌, ◌&&◌, if◌then◌else◌, None, Some, nat_eq};
 ghost use Rattle.keys.specs.Octets.{same_bytes};
-ghost use Rattle.trees.specs.Holding.{standing};
-ghost use Rattle.presence.specs.Presences.{present_as, presence_of};
+ghost use Rattle.records.specs.Records.{rec_of};
+ghost use Rattle.trees.specs.Holding.{if_some, standing};
+ghost use Rattle.presence.specs.Presences.{presence_of};
 ghost use Rattle.presence.specs.declared.present.Presence.TheVariants.{Same, Other};
 
 use crate::present::Presence;
 use devices::Device;
 use octets::same_bytes;
-use records::Place;
+use records::{Place, Record};
+
+// The most payload bytes of a container. No call here may allocate: a payload is read into an array of this length, whatever its own.
+const LONGEST: usize = 7168;
 
 // What a stored level and stored bytes say of these.
 fn compared(stored: u8, held: &[u8], level: u8, payload: &[u8]) -> Presence
@@ -21,31 +25,27 @@ fn compared(stored: u8, held: &[u8], level: u8, payload: &[u8]) -> Presence
     }
 }
 
-// What the record at a place says of this level and these bytes.
-fn present_at<D: Device>(device: &D, place: Place, level: u8, payload: &[u8]) -> Presence
-    ensures { result ≡ present_as level payload.now (standing (D.contents device.now) place) }
+// What the record at a place says of this level and these bytes, if there is one.
+fn present_at<D: Device>(device: &D, place: Place, level: u8, payload: &[u8]) -> Option<Presence>
+    ensures { result ≡ if_some None (λ x. Some (if nat_eq x.level level && same_bytes x.payload payload.now then Same else Other)) (standing (D.contents device.now) place) }
 {
-    let Ok(stored) = device.level(place) else {
-        return Presence::Absent;
-    };
-    let mut buffer = [0u8; 7168];
-    match device.payload(place, &mut buffer) {
-        Ok(len) => compared(stored, &buffer[0..len], level, payload),
-        Err(_) => Presence::Absent,
-    }
+    let stored = device.level(place).ok()?;
+    let mut buffer = [0; LONGEST];
+    let long = device.payload(place, &mut buffer).ok()?;
+    Some(compared(stored, &buffer[..long], level, payload))
 }
 
-// What is stored of the record of this level, fingerprint and payload.
-pub fn presence_of<D: Device>(
-    device: &D,
-    level: u8,
-    fingerprint: D::Kind,
-    payload: &[u8],
-) -> Presence
-    ensures { result ≡ presence_of (D.contents device.now) (record { level = level; fingerprint = D.Kind.Key.bytes fingerprint; payload = payload.now }) }
+// What is stored of a record.
+pub fn presence_of<D: Device>(device: &D, wanted: Record<'_, D::Kind>) -> Presence
+    ensures { result ≡ presence_of (D.contents device.now) (rec_of D.Kind.Key.bytes wanted.entry) }
 {
-    match device.first_place(fingerprint) {
-        None => Presence::Absent,
-        Some(place) => present_at(device, place, level, payload),
-    }
+    let Record {
+        level,
+        fingerprint,
+        payload,
+    } = wanted;
+    device
+        .first_place(fingerprint)
+        .and_then(|place| present_at(device, place, level, payload))
+        .unwrap_or(Presence::Absent)
 }

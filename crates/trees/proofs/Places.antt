@@ -1,6 +1,7 @@
 -- The record of a fingerprint is the one at its first place.
-use Rattle.std.proofs.Common.{◌≡◌, ℕ, suc, ◌+◌, true, false, cond, List, [], ◌∷◌, ◌++◌, length, get_or, Some, None, Option, sym, refl, ap, ◌∙◌, arith}
+use Rattle.std.proofs.Common.{◌≡◌, ℕ, suc, ◌+◌, true, false, cond, List, [], ◌∷◌, ◌++◌, length, get_or, Some, None, Option, sym, refl, ap, ◌∙◌, add-one, arith, append_assoc}
 use Rattle.std.specs.List.{slice_get}
+use Rattle.std.proofs.lemmas.List.{length_push}
 use Rattle.keys.specs.Octets.{same_bytes}
 use Rattle.records.specs.Records.{Rec, Contents, place_among, place_from, first_place}
 use Rattle.records.specs.declared.refusal.Place.{Place}
@@ -14,16 +15,8 @@ module _ (p : List ℕ) where
   place-among full c old (r ∷ rs) rest later h e =
       elim (same_bytes r.fingerprint p) as (λ t. if_some None (standing full) (cond t (Some (record { container = c; index = length old })) (place_among p c (suc (length old)) rs later)) ≡ cond t (Some r) (first p (rs ++ rest))) [
         | true ↦ ap (λ z. slice_get z (length old)) h ∙ nth_middle old r rs
-        | false ↦ ap (λ n. if_some None (standing full) (place_among p c n rs later)) (sym (longer old)) ∙ place-among full c (old ++ (r ∷ [])) rs rest later (h ∙ sym (behind old rs)) e
+        | false ↦ ap (λ n. if_some None (standing full) (place_among p c n rs later)) (sym (length_push old r ∙ add-one (length old))) ∙ place-among full c (old ++ (r ∷ [])) rs rest later (h ∙ sym (append_assoc old (r ∷ []) rs)) e
       ]
-    where
-      longer : (xs : List Rec) → length (xs ++ (r ∷ [])) ≡ suc (length xs)
-      longer [] = refl
-      longer (x ∷ xs) = ap suc (longer xs)
-
-      behind : (xs ys : List Rec) → (xs ++ (r ∷ [])) ++ ys ≡ xs ++ (r ∷ ys)
-      behind [] ys = refl
-      behind (x ∷ xs) ys = ap (λ z. x ∷ z) (behind xs ys)
 
   place_from_lem : (full : Contents) (c : ℕ) (cs : Contents) → ((j : ℕ) → get_or full (c + j) [] ≡ get_or cs j []) → if_some None (standing full) (place_from p c cs) ≡ first p (all cs)
   place_from_lem full c [] h = refl

@@ -2,9 +2,10 @@
 use Rattle.std.proofs.Common.{◌≡◌, ℕ, zero, suc, ◌+◌, ◌/◌, ◌%◌, ◌<◌, ◌≤◌, true, false, cond, eqb, List, [], ◌∷◌, ◌++◌, length, take, drop, Some, None, Option, sym, refl, ap, ◌∙◌, ap₂, arith}
 use Rattle.std.specs.List.{slice_get, flat_map}
 use Rattle.std.proofs.lemmas.List.{append-nil, append_assoc, append_cancel_right, length_push, length-append, drop_all, take_all, take-append-drop}
+use Rattle.std.proofs.lemmas.Grind.{flat_map-append}
 use Rattle.trees.specs.Holding.{if_some}
 use Rattle.trees.specs.Cursor.{span, strips, seek, next, before, rest, rank, Fit, InTree}
-use Rattle.trees.proofs.Steps.{nth_drop, joined_append, rest_start, rest_end, step}
+use Rattle.trees.proofs.Steps.{nth_drop, rest_start, rest_end, step}
 
 pub nth_past : {X : Type 0} (xs : List X) (i : ℕ) → slice_get xs i ≡ None → length xs ≤ i
 nth_past [] i e = omega arith
@@ -37,7 +38,7 @@ module _ {P : Type 0} (kids : P → List P) where
           ap (λ o. (T ++ if_some [] (λ z. before kids n z (at % span n)) o) ++ (if_some [] (λ z. rest kids n z (at % span n)) o ++ D)) e
           ∙ append_assoc T B (R ++ D)
           ∙ ap (λ z. T ++ z) (sym (append_assoc B R D) ∙ ap (λ z. z ++ D) (ih c) ∙ ap (flat_map (strips kids n)) (sym (nth_drop (kids p) i c e)))
-          ∙ sym (joined_append (strips kids n) (take i (kids p)) (drop i (kids p)))
+          ∙ sym (flat_map-append (strips kids n) (take i (kids p)) (drop i (kids p)))
           ∙ ap (flat_map (strips kids n)) (take-append-drop i (kids p))
 
   module _ (n : ℕ) (p : P) (f : Fit kids n p) where

@@ -1,9 +1,10 @@
 -- A cursor gives the strips in order.
-use Rattle.std.proofs.Common.{◌≡◌, ℕ, zero, suc, ◌+◌, ◌*◌, ◌/◌, ◌%◌, ◌<◌, ◌≤◌, true, false, cond, eqb, List, [], ◌∷◌, ◌++◌, length, take, drop, Some, None, Option, sym, refl, ap, ◌∙◌, ap₂, inl, inr, ⊎_elim, add-mul, arith}
+use Rattle.std.proofs.Common.{◌≡◌, ℕ, zero, suc, ◌+◌, ◌*◌, ◌/◌, ◌%◌, ◌<◌, true, false, cond, eqb, List, [], ◌∷◌, ◌++◌, length, take, drop, Some, None, Option, sym, refl, ap, ◌∙◌, ap₂, inl, inr, ⊎_elim, add-mul, arith}
 use native.Mathlib.Nat.{zero-div, zero-mod}
 use Rattle.std.specs.List.{slice_get, flat_map}
 use Rattle.std.proofs.lemmas.Nat.{div-mul-add, mod-mul-add, mul-add-lt}
-use Rattle.std.proofs.lemmas.List.{append_assoc, drop_all}
+use Rattle.std.proofs.lemmas.List.{drop_all}
+use Rattle.std.proofs.lemmas.Option.{slice_get_past, slice_get_within}
 use Rattle.std.proofs.lemmas.Bool.{eq-eqb, ne_eqb, cases_eq, cond-true, cond-false}
 use Rattle.trees.specs.Holding.{In, if_some}
 use Rattle.trees.specs.Cursor.{span, strips, seek, next, rest, Fit, InTree}
@@ -17,11 +18,6 @@ nth_drop [] i x e = absurd (let z : ◌≡◌ {A = ℕ} 0 1 = cc in omega arith)
 nth_drop (y ∷ xs) zero x e = let s : y ≡ x = cc in ap (λ v. v ∷ xs) s
 nth_drop (y ∷ xs) (suc i) x e = nth_drop xs i x e
 
-pub nth_under : {X : Type 0} (xs : List X) (i : ℕ) (x : X) → slice_get xs i ≡ Some x → i < length xs
-nth_under [] i x e = absurd (let z : ◌≡◌ {A = ℕ} 0 1 = cc in omega arith)
-nth_under (y ∷ xs) zero x e = omega arith
-nth_under (y ∷ xs) (suc i) x e = omega (arith, nth_under xs i x e)
-
 pub nth_in : {X : Type 0} (xs : List X) (i : ℕ) (x : X) → slice_get xs i ≡ Some x → In x xs
 nth_in [] i x e = absurd (let z : ◌≡◌ {A = ℕ} 0 1 = cc in omega arith)
 nth_in (y ∷ xs) zero x e = inl (let s : x ≡ y = cc in s)
@@ -32,19 +28,10 @@ nth_there [] i h = absurd (omega arith)
 nth_there (y ∷ xs) zero h = (y, refl)
 nth_there (y ∷ xs) (suc i) h = nth_there xs i (omega arith)
 
-pub nth_none : {X : Type 0} (xs : List X) (i : ℕ) → length xs ≤ i → slice_get xs i ≡ None
-nth_none [] i h = refl
-nth_none (y ∷ xs) zero h = absurd (omega arith)
-nth_none (y ∷ xs) (suc i) h = nth_none xs i (omega arith)
-
 pub nth_take : {X : Type 0} (xs : List X) (i : ℕ) (x : X) → slice_get xs i ≡ Some x → take (suc i) xs ≡ take i xs ++ (x ∷ [])
 nth_take [] i x e = absurd (let z : ◌≡◌ {A = ℕ} 0 1 = cc in omega arith)
 nth_take (y ∷ xs) zero x e = let s : y ≡ x = cc in ap (λ z. z ∷ []) s
 nth_take (y ∷ xs) (suc i) x e = ap (λ z. y ∷ z) (nth_take xs i x e)
-
-pub joined_append : {X A : Type 0} (f : X → List A) (xs ys : List X) → flat_map f (xs ++ ys) ≡ flat_map f xs ++ flat_map f ys
-joined_append f [] ys = refl
-joined_append f (x ∷ xs) ys = ap (λ z. f x ++ z) (joined_append f xs ys) ∙ sym (append_assoc (f x) (flat_map f xs) (flat_map f ys))
 
 module _ {P : Type 0} (kids : P → List P) where
   -- at the start all strips are left
@@ -71,14 +58,14 @@ module _ {P : Type 0} (kids : P → List P) where
   rest_end (suc n) p f =
       ap (rest kids (suc n) p) (omega arith)
       ∙ rest_at n p 64 0 (span_pos n)
-      ∙ ap₂ (λ o qs. if_some [] (λ q. rest kids n q 0) o ++ flat_map (strips kids n) qs) (nth_none (kids p) 64 f.1) (drop_all 65 (kids p) (omega (arith, f.1)))
+      ∙ ap₂ (λ o qs. if_some [] (λ q. rest kids n q 0) o ++ flat_map (strips kids n) qs) (slice_get_past (kids p) 64 f.1) (drop_all 65 (kids p) (omega (arith, f.1)))
 
   pub seek_end : (n : ℕ) (p : P) → Fit kids n p → seek kids n p (span n) ≡ None
   seek_end zero p f = refl
   seek_end (suc n) p f =
       ap (seek kids (suc n) p) (omega arith)
       ∙ seek-at n p 64 0 (span_pos n)
-      ∙ ap (if_some None (λ q. seek kids n q 0)) (nth_none (kids p) 64 f.1)
+      ∙ ap (if_some None (λ q. seek kids n q 0)) (slice_get_past (kids p) 64 f.1)
 
   -- the start is a position of the tree
   pub seek_start : (n : ℕ) (p : P) → Fit kids n p → (q : P) × (seek kids n p 0 ≡ Some q)
@@ -91,7 +78,7 @@ module _ {P : Type 0} (kids : P → List P) where
   -- from the child at i, come to b in it: what is left at y
   land : (n : ℕ) (p : P) (i : ℕ) (c : P) (b : ℕ) → Fit kids (suc n) p → slice_get (kids p) i ≡ Some c → InTree kids n c b → (y : ℕ) → y ≡ cond (eqb (i * span n + b) (length (kids p) * span n)) (span (suc n)) (i * span n + b) → (rest kids (suc n) p y ≡ rest kids n c b ++ flat_map (strips kids n) (drop (suc i) (kids p))) × InTree kids (suc n) p y
   land n p i c b f hc inside y is =
-      let lt : i < length (kids p) = nth_under (kids p) i c hc in
+      let lt : i < length (kids p) = slice_get_within (kids p) i c hc in
       let pos = span_pos n in
       let x : ℕ = i * span n + b in
       let full : ℕ = length (kids p) * span n in

@@ -1,33 +1,41 @@
 -- One level down a tree: from a node to its child, and from the positions of a level to those of the level below.
-use Rattle.std.proofs.Common.{◌≡◌, ℕ, zero, suc, ◌+◌, ◌-◌, ◌*◌, ◌/◌, ◌%◌, ◌<◌, ◌≤◌, cond, eqb, List, length, Some, None, Option, sym, refl, ap, ◌∙◌, ap₂, arith}
-use native.Mathlib.Nat.{mul-div_cancel_left}
+use Rattle.std.proofs.Common.{◌≡◌, ℕ, zero, suc, ◌+◌, ◌*◌, ◌/◌, ◌%◌, ◌^◌, ◌≤◌, true, false, cond, eqb, List, length, Some, None, Option, MatchOption, sym, refl, ap, ◌∙◌, ap₂, mul_comm, pow-suc, arith}
 use Rattle.std.specs.List.{slice_get}
+use Rattle.std.specs.Result.{result_unwrap_or}
 use Rattle.std.proofs.lemmas.Nat.{mul-le}
+use Rattle.std.proofs.lemmas.Option.{slice_get_within}
 use Rattle.std.proofs.lemmas.Bool.{cond-true, cond-false, eq-eqb, ne_eqb}
 use Rattle.keys.specs.Octets.{Bytes}
 use Rattle.records.specs.Records.{Rec, Contents, first_place}
 use Rattle.records.specs.declared.refusal.Place.{Place}
+use Rattle.devices.specs.Questions.{of_record}
 use Rattle.trees.specs.Cursor.{span, seek, next}
 use Rattle.trees.specs.Holding.{if_some, record_of, standing}
-use Rattle.trees.specs.Trees.{cut, children, payload_of}
+use Rattle.trees.specs.Trees.{cut, children, level_of, payload_of}
 use Rattle.trees.proofs.Pieces.{cut_typed}
 use Rattle.trees.proofs.Places.{place_tells}
-use Rattle.trees.proofs.Steps.{span_pos, nth_in, nth_under}
+use Rattle.trees.proofs.Steps.{span_pos, nth_in}
 use Rattle.walks.specs.Descents.{as_key}
 use Rattle.walks.proofs.Grounds.{Ground}
-use Rattle.walks.proofs.Told.{none_cut, typed_at}
+use Rattle.walks.proofs.Told.{asked, none_cut, typed_at}
 
 -- the record at the first place of a fingerprint
 pub record_there : (cs : Contents) (p : List ℕ) (o : Option Place) → o ≡ first_place cs p → if_some None (standing cs) o ≡ record_of cs p
 record_there cs p o e = ap (if_some None (standing cs)) e ∙ place_tells p cs
 
--- the space of the level below, at the code's n - 1
-pub space_down : (n space : ℕ) → (n ≡ 0 → ⊥) → space ≡ span n → (space / 64 ≡ span (n - 1)) × (space ≡ 64 * span (n - 1)) × (0 < space / 64)
-space_down zero space no_zero e = absurd (no_zero refl)
-space_down (suc m) space no_zero e =
-    let down : suc m - 1 ≡ m = omega arith in
-    let part : space / 64 ≡ span m = ap (λ x. x / 64) e ∙ mul-div_cancel_left (span m) {n = 64} (omega arith) in
-    (part ∙ ap span (sym down), e ∙ ap (λ x. 64 * span x) (sym down), omega (arith, span_pos m))
+-- the level of the record at the first place of a fingerprint, as a device tells it
+pub level_told : (cs : Contents) (p : List ℕ) (o : Option Place) → o ≡ first_place cs p → (n : ℕ) (Gives : Place → Type 0) → MatchOption o (n ≡ 0) Gives → ((x : Place) → Gives x → n ≡ result_unwrap_or (of_record (λ r. r.level) cs x) 0) → n ≡ level_of (record_of cs p)
+level_told cs p None e n Gives h f = h ∙ ap level_of (record_there cs p None e)
+level_told cs p (Some x) e n Gives h f = f x h ∙ asked cs x (λ r. r.level) 0 _ refl ∙ level (standing cs x) ∙ ap level_of (record_there cs p (Some x) e)
+  where
+    level : (r : Option Rec) → if_some 0 (λ r. r.level) r ≡ level_of r
+    level None = refl
+    level (Some r) = refl
+
+-- the space of a level is a power of 64
+pub span_pow : (n : ℕ) → 64 ^ n ≡ span n
+span_pow zero = refl
+span_pow (suc n) = pow-suc 64 n ∙ mul_comm (64 ^ n) 64 ∙ ap (λ x. 64 * x) (span_pow n)
 
 span_le : (n m : ℕ) → n ≤ m → span n ≤ span m
 span_le zero m l = omega (arith, span_pos m)
@@ -38,24 +46,25 @@ span_le (suc n) (suc m) l = omega (arith, span_le n m (omega arith))
 pub span_small : (n : ℕ) → n ≤ 6 → span n ≤ 0x10_0000_0000
 span_small n l = span_le n 6 l
 
-module _ {P : Type 0} (kids : P → List P) where
-  pub seek_down : (n : ℕ) (p : P) (at b : ℕ) → (n ≡ 0 → ⊥) → b ≡ span (n - 1) → (o : Option P) → o ≡ slice_get (kids p) (at / b) → seek kids n p at ≡ if_some None (λ q. seek kids (n - 1) q (at % b)) o
-  seek_down zero p at b no_zero e o is = absurd (no_zero refl)
-  seek_down (suc m) p at b no_zero e o is =
-      let down : m ≡ suc m - 1 = omega arith in
-      let s : span m ≡ b = ap span down ∙ sym e in
-      ap₂ (λ x s. if_some None (λ q. seek kids x q (at % s)) (slice_get (kids p) (at / s))) down s
-      ∙ ap (if_some None (λ q. seek kids (suc m - 1) q (at % b))) (sym is)
+-- from level n to m just below, whose space is b
+module _ {P : Type 0} (kids : P → List P) (n m b : ℕ) (e : n ≡ suc m) (s : b ≡ span m) (p : P) (at : ℕ) where
+  pub seek_down : (o : Option P) → o ≡ slice_get (kids p) (at / b) → seek kids n p at ≡ if_some None (λ q. seek kids m q (at % b)) o
+  seek_down o is =
+      ap (λ k. seek kids k p at) e
+      ∙ sym (ap₂ (λ x y. if_some None (λ q. seek kids m q (at % x)) y) s (is ∙ ap (λ x. slice_get (kids p) (at / x)) s))
 
-  pub next_down : (n : ℕ) (p : P) (at b space count : ℕ) → (n ≡ 0 → ⊥) → space ≡ span n → b ≡ span (n - 1) → count ≡ length (kids p) → (o : Option P) → o ≡ slice_get (kids p) (at / b) → next kids n p at ≡ if_some space (λ q. cond (eqb (at / b * b + next kids (n - 1) q (at % b)) (count * b)) space (at / b * b + next kids (n - 1) q (at % b))) o
-  next_down zero p at b space count no_zero r e l o is = absurd (no_zero refl)
-  next_down (suc m) p at b space count no_zero r e l o is =
-      let down : m ≡ suc m - 1 = omega arith in
-      let s : span m ≡ b = ap span down ∙ sym e in
-      let to : ℕ → ℕ → ℕ → P → ℕ → ℕ = λ x s r q c. cond (eqb (at / s * s + next kids x q (at % s)) (c * s)) r (at / s * s + next kids x q (at % s)) in
-      ap₂ (λ x s. if_some (span (suc m)) (λ q. to x s (span (suc m)) q (length (kids p))) (slice_get (kids p) (at / s))) down s
-      ∙ ap₂ (λ r c. if_some r (λ q. to (suc m - 1) b r q c) (slice_get (kids p) (at / b))) (sym r) (sym l)
-      ∙ ap (if_some space (λ q. to (suc m - 1) b space q count)) (sym is)
+  pub next_down : (end : ℕ) → end ≡ length (kids p) * b → (o : Option P) → o ≡ slice_get (kids p) (at / b) → next kids n p at ≡ if_some (span n) (λ q. cond (eqb (at / b * b + next kids m q (at % b)) end) (span n) (at / b * b + next kids m q (at % b))) o
+  next_down end l o is =
+      let to : ℕ → ℕ → ℕ → P → ℕ = λ r x c q. cond (eqb (at / x * x + next kids m q (at % x)) c) r (at / x * x + next kids m q (at % x)) in
+      ap (λ k. next kids k p at) e
+      ∙ sym (ap₂ (λ r x. if_some r (to r x end) o) (ap span e) s
+      ∙ ap₂ (λ c y. if_some (span (suc m)) (to (span (suc m)) (span m) c) y) (l ∙ ap (λ x. length (kids p) * x) s) (is ∙ ap (λ x. slice_get (kids p) (at / x)) s))
+
+-- where a step from a child to the position x comes to: behind the last child to the end of the space, else to x
+pub record Stepped (next x last space : ℕ) : Type 0 where
+  pub end : x ≡ last → space ≡ next
+  pub on : (x ≡ last → ⊥) → x ≡ next
+  pub small : x ≤ 128 * space
 
 module _ {K : Type 0} (on : Ground K) where
   abbrev bytes : K → List ℕ
@@ -104,66 +113,67 @@ module _ {K : Type 0} (on : Ground K) where
       pub the_child : (child : K) → Some child ≡ as_key key (slice_get (cut w (payload_of (standing cs x))) i) → Some (bytes child) ≡ slice_get (children w cs p) i
       the_child child h = piece_bytes (payload_of (standing cs x)) (listed-bytes x (standing cs x) refl) i child h ∙ ap (λ qs. slice_get qs i) listed_at
 
-  -- a node at level n, which is not 0, in a tree of a device
-  module _ (p : List ℕ) (n space at : ℕ) (no_zero : n ≡ 0 → ⊥) (r : space ≡ span n) where
-    abbrev b : ℕ
-    b = space / 64
+  -- the place of what stands at a position
+  abbrev strip : ℕ → List ℕ → ℕ → Option Place
+  strip n p at = if_some None (first_place cs) (seek (children w cs) n p at)
 
-    seek_to : (o : Option (List ℕ)) → o ≡ slice_get (children w cs p) (at / b) → if_some None (λ q. if_some None (first_place cs) (seek (children w cs) (n - 1) q (at % b))) o ≡ if_some None (first_place cs) (seek (children w cs) n p at)
-    seek_to o is = both o ∙ sym (ap (if_some None (first_place cs)) (seek_down (children w cs) n p at b no_zero (space_down n space no_zero r).0 o is))
-      where
-        both : (o : Option (List ℕ)) → if_some None (λ q. if_some None (first_place cs) (seek (children w cs) (n - 1) q (at % b))) o ≡ if_some None (first_place cs) (if_some None (λ q. seek (children w cs) (n - 1) q (at % b)) o)
-        both None = refl
-        both (Some q) = refl
+  -- a fingerprint that is not stored has no strips
+  pub strip_no_place : (n : ℕ) (p : List ℕ) (at : ℕ) → None ≡ first_place cs p → None ≡ strip n p at
+  strip_no_place zero p at none =
+      elim (eqb at 0) as (λ b. None ≡ if_some None (first_place cs) (cond b (Some p) None)) [ true ↦ none | false ↦ refl ]
+  strip_no_place (suc m) p at none =
+      sym (ap (if_some None (first_place cs)) (seek_down (children w cs) (suc m) m (span m) refl refl p at None (no_place p (at / span m) none)))
 
-    next_to : (count : ℕ) → count ≡ length (children w cs p) → (o : Option (List ℕ)) → o ≡ slice_get (children w cs p) (at / b) → next (children w cs) n p at ≡ if_some space (λ q. cond (eqb (at / b * b + next (children w cs) (n - 1) q (at % b)) (count * b)) space (at / b * b + next (children w cs) (n - 1) q (at % b))) o
-    next_to count l o is = next_down (children w cs) n p at b space count no_zero r (space_down n space no_zero r).0 l o is
+  -- a node at level n, and the level m just below, whose space is b
+  module _ (p : List ℕ) (n m b at : ℕ) (e : n ≡ suc m) (s : b ≡ span m) where
+    next_to : (end : ℕ) → end ≡ length (children w cs p) * b → (o : Option (List ℕ)) → o ≡ slice_get (children w cs p) (at / b) → next (children w cs) n p at ≡ if_some (span n) (λ q. cond (eqb (at / b * b + next (children w cs) m q (at % b)) end) (span n) (at / b * b + next (children w cs) m q (at % b))) o
+    next_to end l o is = next_down (children w cs) n m b e s p at end l o is
 
-    module _ (none : None ≡ first_place cs p) where
-      pub strip_no_place : None ≡ if_some None (first_place cs) (seek (children w cs) n p at)
-      strip_no_place = seek_to None (no_place p (at / b) none)
+    pub next_no_place : None ≡ first_place cs p → span n ≡ next (children w cs) n p at
+    next_no_place none = sym (next_to _ refl None (no_place p (at / b) none))
 
-      pub next_no_place : space ≡ next (children w cs) n p at
-      next_no_place = sym (next_to _ refl None (no_place p (at / b) none))
+    module _ (x : Place) (there : Some x ≡ first_place cs p) where
+      strip_to : (o : Option (List ℕ)) → o ≡ slice_get (children w cs p) (at / b) → strip n p at ≡ if_some None (first_place cs) (if_some None (λ q. seek (children w cs) m q (at % b)) o)
+      strip_to o is = ap (if_some None (first_place cs)) (seek_down (children w cs) n m b e s p at o is)
 
-    module _ (x : Place) (e : Some x ≡ first_place cs p) where
       module _ (none : None ≡ as_key key (slice_get (cut w (payload_of (standing cs x))) (at / b))) where
-        pub strip_no_child : None ≡ if_some None (first_place cs) (seek (children w cs) n p at)
-        strip_no_child = seek_to None (no_child p (at / b) x e none)
+        pub strip_no_child : None ≡ strip n p at
+        strip_no_child = sym (strip_to None (no_child p (at / b) x there none))
 
-        pub next_no_child : space ≡ next (children w cs) n p at
-        next_no_child = sym (next_to _ refl None (no_child p (at / b) x e none))
+        pub next_no_child : span n ≡ next (children w cs) n p at
+        next_no_child = sym (next_to _ refl None (no_child p (at / b) x there none))
 
       module _ (child : K) (is : Some child ≡ as_key key (slice_get (cut w (payload_of (standing cs x))) (at / b))) where
         this : Some (bytes child) ≡ slice_get (children w cs p) (at / b)
-        this = the_child p (at / b) x e child is
+        this = the_child p (at / b) x there child is
 
-        pub strip_child : (o : Option Place) → o ≡ if_some None (first_place cs) (seek (children w cs) (n - 1) (bytes child) (at % b)) → o ≡ if_some None (first_place cs) (seek (children w cs) n p at)
-        strip_child o h = h ∙ seek_to (Some (bytes child)) this
+        pub strip_child : strip m (bytes child) (at % b) ≡ strip n p at
+        strip_child = sym (strip_to (Some (bytes child)) this)
 
-        module _ (count y : ℕ) (l : count ≡ length (cut w (payload_of (standing cs x)))) (h : y ≡ next (children w cs) (n - 1) (bytes child) (at % b)) where
+        module _ (count y : ℕ) (l : count ≡ length (cut w (payload_of (standing cs x)))) (h : y ≡ next (children w cs) m (bytes child) (at % b)) where
           counted : count ≡ length (children w cs p)
-          counted = l ∙ ap length (listed_at p (at / b) x e)
+          counted = l ∙ ap length (listed_at p (at / b) x there)
 
-          next_is : next (children w cs) n p at ≡ cond (eqb (at / b * b + y) (count * b)) space (at / b * b + y)
-          next_is = next_to count counted (Some (bytes child)) this ∙ ap (λ z. cond (eqb (at / b * b + z) (count * b)) space (at / b * b + z)) (sym h)
-
-          -- behind the last child it is the end
-          pub next_end : at / b * b + y ≡ count * b → space ≡ next (children w cs) n p at
-          next_end s = sym (next_is ∙ cond-true (eqb (at / b * b + y) (count * b)) space (at / b * b + y) (eq-eqb (at / b * b + y) (count * b) s))
-
-          pub next_on : (at / b * b + y ≡ count * b → ⊥) → at / b * b + y ≡ next (children w cs) n p at
-          next_on s = sym (next_is ∙ cond-false (eqb (at / b * b + y) (count * b)) space (at / b * b + y) (ne_eqb (at / b * b + y) (count * b) s))
+          next_is : next (children w cs) n p at ≡ cond (eqb (at / b * b + y) (count * b)) (span n) (at / b * b + y)
+          next_is = next_to (count * b) (ap (λ c. c * b) counted) (Some (bytes child)) this ∙ ap (λ z. cond (eqb (at / b * b + z) (count * b)) (span n) (at / b * b + z)) (sym h)
 
           -- no position passes 128 times the space, also where a broken record has 7168 children
-          pub next_small : count ≤ 7168 → y ≤ 128 * span (n - 1) → at / b * b + y ≤ 128 * span n
-          next_small few small =
-              let u = nth_under (children w cs p) (at / b) (bytes child) (sym this) in
+          within : count ≤ 7168 → y ≤ 128 * span m → at / b * b + y ≤ 128 * span n
+          within few small =
+              let u = slice_get_within (children w cs p) (at / b) (bytes child) (sym this) in
               let i : at / b ≤ 7167 = omega (arith, counted) in
-              let down = space_down n space no_zero r in
-              omega (arith, mul-le (at / b) b 7167 b i (omega arith), down.0, down.1, r)
+              let up : span n ≡ 64 * span m = ap span e in
+              omega (arith, mul-le (at / b) b 7167 b i (omega arith))
 
-          pub count_small : count ≤ 7168 → n ≤ 6 → count * b ≤ 0x800_0000_0000
-          count_small few low =
-              let down = space_down n space no_zero r in
-              omega (arith, mul-le count b 7168 b few (omega arith), span_small n low, down.0, down.1, r)
+          pub stepped : count ≤ 7168 → y ≤ 128 * span m → Stepped (next (children w cs) n p at) (at / b * b + y) (count * b) (span n)
+          stepped few small = record {
+            end = λ t. sym (next_is ∙ cond-true (eqb (at / b * b + y) (count * b)) (span n) (at / b * b + y) (eq-eqb (at / b * b + y) (count * b) t));
+            on = λ t. sym (next_is ∙ cond-false (eqb (at / b * b + y) (count * b)) (span n) (at / b * b + y) (ne_eqb (at / b * b + y) (count * b) t));
+            small = within few small;
+          }
+
+-- neither does the end of a record of so many children
+pub count_small : (count n m b : ℕ) → count ≤ 7168 → n ≤ 6 → n ≡ suc m → b ≡ span m → count * b ≤ 0x800_0000_0000
+count_small count n m b few low e s =
+    let up : span n ≡ 64 * span m = ap span e in
+    omega (arith, mul-le count b 7168 b few (omega arith), span_small n low)

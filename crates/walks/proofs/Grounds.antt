@@ -16,11 +16,11 @@ pub record Ground (K : Type 0) : Type 0 where
   pub held : Held w cs
 
 -- the ground of a device, from what its bound has
-abbrev pub grounded : {K D : Type 0} (k : KeyGhosts K) → ((bs : List ℕ) → length bs ≡ k.width → Bytes bs → k.bytes (k.key bs) ≡ bs) → ((x : K) → k.key (k.bytes x) ≡ x) → (devices : DeviceGhosts D K) → ((d : D) → Held k.width (devices.contents d)) → D → Ground K
+abbrev pub grounded : {K D : Type 0} (k : KeyGhosts K) → ((bs : List ℕ) → length bs ≡ k.WIDE → Bytes bs → k.bytes (k.key bs) ≡ bs) → ((x : K) → k.key (k.bytes x) ≡ x) → (devices : DeviceGhosts D K) → ((d : D) → Held k.WIDE (devices.contents d)) → D → Ground K
 grounded k any back devices held d = record {
   bytes = k.bytes;
   key = k.key;
-  w = k.width;
+  w = k.WIDE;
   any = any;
   back = back;
   cs = devices.contents d;

@@ -1,31 +1,34 @@
 -- From what a device tells of a node to a step of an examination.
-use Rattle.std.proofs.Common.{◌≡◌, ℕ, ◌+◌, ◌-◌, ◌/◌, ◌<◌, ◌≤◌, true, false, cond, eqb, List, [], ◌∷◌, ◌++◌, map, length, take, is_some, IsErrAnd, Some, None, Ok, Err, Option, Result, sym, refl, ap, ◌∙◌, subst, inl, inr, ⊎_elim, add-one, arith}
-use Rattle.std.specs.List.{slice_get, flat_map, AllByRecursion}
-use Rattle.std.proofs.lemmas.List.{take_all, take_more, append-nil, map-append}
-use Rattle.std.proofs.lemmas.Bool.{eq-eqb, ne_eqb, eqb-true, both_ways}
+use Rattle.std.proofs.Common.{◌≡◌, ℕ, suc, ◌+◌, ◌-◌, ◌/◌, ◌<◌, ◌≤◌, Bool, true, false, cond, eqb, leb, List, [], ◌∷◌, ◌++◌, map, length, take, drop, is_some, IsErrAnd, Some, None, Ok, Err, Option, Result, MatchOption, sym, refl, ap, ap₂, ◌∙◌, subst, inl, inr, ⊎_elim, add-one, arith, length-append, append_assoc}
+use Rattle.std.proofs.Math.Nat.{add-div_left, div-eq_of_lt}
+use Rattle.std.proofs.Math.Seq.{drop-append_seam}
+use Rattle.std.specs.Bool.{then_some}
+use Rattle.std.specs.List.{flat_map, AllByRecursion}
+use Rattle.std.proofs.lemmas.List.{take_at, take_all, take_more, append-nil, map-append}
+use Rattle.std.proofs.lemmas.Grind.{flat_map-append}
+use Rattle.std.proofs.lemmas.Bool.{le-leb, eq-eqb, eqb-true, both_ways}
 use Rattle.keys.specs.Octets.{Bytes}
 use Rattle.keys.specs.Little.{same_equal, equal_keys}
 use Rattle.records.specs.Limits.{Typed}
 use Rattle.records.specs.Records.{Rec, Contents, first_place}
 use Rattle.records.specs.declared.refusal.Place.{Place}
 use Rattle.records.specs.declared.refusal.Refusal.{Refusal}
-use Rattle.devices.specs.Questions.{Held, records_of, of_record, payload_answer, payload_filled}
+use Rattle.devices.specs.Questions.{Held, records_of, of_record}
 use Rattle.trees.specs.Holding.{In, all, record_of, standing}
-use Rattle.trees.specs.Trees.{cut, Reaches, StoredUnder, StoredNode, stands, level_of, payload_of, Whole as WholeTree}
+use Rattle.trees.specs.Trees.{cut, pieces, Reaches, StoredUnder, StoredNode, stands, level_of, payload_of, Whole}
 use Rattle.trees.specs.Trees.Reaches.{itself, onward}
 use Rattle.slots.specs.Tables.{holds, filled, others_only, Sound}
 use Rattle.slots.proofs.Walking.{filled_le}
 use Rattle.trees.proofs.Finding.{first_in, in_left, in_right, in_either}
-use Rattle.trees.proofs.Pieces.{cut_typed, length_cut}
-use Rattle.trees.proofs.Steps.{nth_in, nth_there, nth_take, joined_append}
-use Rattle.walks.specs.Descents.{as_key}
-use Rattle.walks.specs.Findings.{Tells, Passed}
+use Rattle.trees.proofs.Pieces.{cut_typed}
+use Rattle.trees.proofs.Steps.{nth_take}
+use Rattle.walks.specs.Findings.{Flawed, Passed, Tells}
 use Rattle.walks.specs.Sweeps.{Admits, Admitted, Parent, Sweep}
-use Rattle.walks.specs.declared.finding.Finding.{Finding}
-use Rattle.walks.specs.declared.finding.Finding.TheVariants.{Whole, NoRoot, Broken, TableFull}
+use Rattle.walks.specs.declared.flaw.Flaw.{Flaw}
+use Rattle.walks.specs.declared.flaw.Flaw.TheVariants.{NoRoot, Broken, TableFull}
 use Rattle.walks.proofs.Grounds.{Ground}
-use Rattle.walks.proofs.Told.{told, untold_none, not_copied, copied, typed_at}
-use Rattle.walks.proofs.Down.{record_there, piece_bytes}
+use Rattle.walks.proofs.Told.{answer, answered, told, typed_at}
+use Rattle.walks.proofs.Down.{record_there}
 use Rattle.walks.proofs.Sweeping.{sweep_insert, admitted_insert, sweep_full, sweep_fault, sweep_less, sweep_done, sweep_down}
 
 -- the place of a fingerprint that is stored at level n
@@ -33,21 +36,25 @@ abbrev place_at : Contents → List ℕ → ℕ → Option Place
 place_at cs p n = cond (stands (record_of cs p) n) (first_place cs p) None
 
 module _ (cs : Contents) (p : List ℕ) (n : ℕ) where
-  module _ (x : Place) (e : Some x ≡ first_place cs p) where
-    pub at_level : (v : ℕ) → Ok v ≡ of_record (λ r. r.level) cs x → v ≡ n → Some x ≡ place_at cs p n
-    at_level v a is =
-        let t = told cs x (λ r. r.level) v a in
-        let stood : stands (record_of cs p) n ≡ true = ap (λ o. stands o n) (sym (record_there cs p (Some x) e) ∙ t.1) ∙ eq-eqb t.0.level n (sym t.2 ∙ is) in
-        e ∙ ap (λ b. cond b (first_place cs p) None) (sym stood)
+  -- a test is true of level n alone, and of no refusal
+  abbrev LevelIs : Bool → Result ℕ Refusal → Type 0
+  LevelIs b (Ok l) = b ≡ eqb l n
+  LevelIs b (Err e) = b ≡ false
 
-    pub off_level : (v : ℕ) → Ok v ≡ of_record (λ r. r.level) cs x → (v ≡ n → ⊥) → None ≡ place_at cs p n
-    off_level v a no-is =
-        let t = told cs x (λ r. r.level) v a in
-        let stood : stands (record_of cs p) n ≡ false = ap (λ o. stands o n) (sym (record_there cs p (Some x) e) ∙ t.1) ∙ ne_eqb t.0.level n (λ s. no-is (t.2 ∙ s)) in
-        ap (λ b. cond b (first_place cs p) None) (sym stood)
+  -- the place that is left of the first where its record is told to have the level
+  pub place_told : (o : Option Place) → o ≡ first_place cs p → (a : Option Place) (Gives : Place → Bool → Type 0) → MatchOption o (a ≡ None) (λ x. (b : Bool) × Gives x b × (a ≡ then_some b x)) → ((x : Place) (b : Bool) → Gives x b → LevelIs b (of_record (λ r. r.level) cs x)) → a ≡ place_at cs p n
+  place_told None e a Gives h f = h ∙ ap (λ o. cond (stands o n) (first_place cs p) None) (record_there cs p None e)
+  place_told (Some x) e a Gives (b, gives, kept) f =
+      let stood : b ≡ stands (record_of cs p) n = level (standing cs x) (subst (LevelIs b) (answered cs x (λ r. r.level)) (f x b gives)) ∙ ap (λ o. stands o n) (record_there cs p (Some x) e) in
+      kept ∙ keep b ∙ ap₂ (λ s o. cond s o None) stood e
+    where
+      level : (o : Option Rec) → LevelIs b (answer (λ r. r.level) o) → b ≡ stands o n
+      level None h = h
+      level (Some r) h = h
 
-    pub no_level : (f : Refusal) → Err f ≡ of_record (λ r. r.level) cs x → None ≡ place_at cs p n
-    no_level f a = ap (λ o. cond (stands o n) (first_place cs p) None) (sym (untold_none cs x (λ r. r.level) f a) ∙ record_there cs p (Some x) e)
+      keep : (b : Bool) → then_some b x ≡ cond b (Some x) None
+      keep true = refl
+      keep false = refl
 
   -- what such a place tells, and what none does
   pub found_there : (x : Place) → Some x ≡ place_at cs p n → (Some x ≡ first_place cs p) × ((r : Rec) × (record_of cs p ≡ Some r) × (r.level ≡ n))
@@ -103,13 +110,32 @@ reached_typed on k q (onward {p} g r e l i) =
     on.any q c.0 c.1
 
 -- an examination's answers, passed on
-pub passed_err : (w : ℕ) (cs : Contents) (root : List ℕ) (slots : ℕ) (Fine : Type 0) (o : Result (Unit {0}) Finding) (e : Finding) → IsErrAnd o (λ y. y ≡ e) → Tells w cs root slots e → Passed w cs root slots Fine o
+pub passed_err : (w : ℕ) (cs : Contents) (root : List ℕ) (slots : ℕ) (Fine : Type 0) (o : Result (Unit {0}) Flaw) (e : Flaw) → IsErrAnd o (λ y. y ≡ e) → Flawed w cs root slots e → Passed w cs root slots Fine o
 passed_err w cs root slots Fine (Ok u) e h t = elim h [ ]
-passed_err w cs root slots Fine (Err y) e h t = subst (Tells w cs root slots) (sym h) t
+passed_err w cs root slots Fine (Err y) e h t = subst (Flawed w cs root slots) (sym h) t
 
-pub passed_map : (w : ℕ) (cs : Contents) (root : List ℕ) (slots : ℕ) (Fine Fine' : Type 0) (o : Result (Unit {0}) Finding) → (Fine → Fine') → Passed w cs root slots Fine o → Passed w cs root slots Fine' o
+pub passed_map : (w : ℕ) (cs : Contents) (root : List ℕ) (slots : ℕ) (Fine Fine' : Type 0) (o : Result (Unit {0}) Flaw) → (Fine → Fine') → Passed w cs root slots Fine o → Passed w cs root slots Fine' o
 passed_map w cs root slots Fine Fine' (Ok u) f p = f p
 passed_map w cs root slots Fine Fine' (Err e) f p = p
+
+-- the first piece off the front of some bytes, and none where too few are left
+cut_more : (w : ℕ) (piece rest : List ℕ) → 1 ≤ w → length piece ≡ w → cut w (piece ++ rest) ≡ piece ∷ cut w rest
+cut_more w piece rest some e =
+    let many : length (piece ++ rest) / w ≡ suc (length rest / w) =
+    ap (λ n. n / w) (length-append piece rest ∙ ap (λ k. k + length rest) e) ∙ add-div_left (length rest) {k = w} (omega arith) ∙ add-one (length rest / w) in
+    ap (λ n. pieces n w (piece ++ rest)) many
+    ∙ ap₂ (λ q qs. q ∷ pieces (length rest / w) w qs) (take_at piece rest w e) (ap (λ k. drop k (piece ++ rest)) (sym e) ∙ drop-append_seam piece rest)
+
+cut_less : (w : ℕ) (rest : List ℕ) → length rest < w → cut w rest ≡ []
+cut_less w rest few = ap (λ n. pieces n w rest) (div-eq_of_lt few)
+
+-- how far a node's children are entered: those before the bytes that are left are admitted
+pub record Going {K : Type 0} (bytes : K → List ℕ) (w : ℕ) (cs : Contents) (root : List ℕ) (slots n : ℕ) (done : List (List ℕ)) (x : Place) (p : K) (r : Rec) (payload rest : List ℕ) (xs : List (Option K)) : Type 0 where
+  pub sweep : Sweep bytes w cs root slots n done xs
+  pub parent : Parent bytes cs x n xs p r
+  pub before : List (List ℕ)
+  pub cuts : cut w payload ≡ before ++ cut w rest
+  pub admitted : Admitted bytes cs n before xs
 
 module _ {K : Type 0} (on : Ground K) (root : List ℕ) (slots n : ℕ) where
   abbrev bytes : K → List ℕ
@@ -124,54 +150,62 @@ module _ {K : Type 0} (on : Ground K) (root : List ℕ) (slots n : ℕ) where
   abbrev cs : Contents
   cs = on.cs
 
-  -- a child of a payload
-  module _ (pos : 1 ≤ n) (x : Place) (done : List (List ℕ)) (p : K) (r : Rec) (payload : List ℕ) (is : r.payload ≡ payload) (i : ℕ) (xs : List (Option K)) (s : Sweep bytes w cs root slots n done xs) (f : Parent bytes cs x n xs p r) where
-    module _ (child : K) (read : Some child ≡ as_key key (slice_get (cut w payload) i)) where
-      listed : slice_get (cut w payload) i ≡ Some (bytes child)
-      listed = sym (piece_bytes on payload (subst Bytes is (typed_record w cs on.held (bytes p) r f.is).payload) i child read)
+  -- the children of a payload, one after another
+  module _ (some : 1 ≤ w) (pos : 1 ≤ n) (x : Place) (done : List (List ℕ)) (p : K) (r : Rec) (payload : List ℕ) (is : r.payload ≡ payload) where
+    pub going_start : (rest : List ℕ) → rest ≡ payload → (xs : List (Option K)) → Sweep bytes w cs root slots n done xs → Parent bytes cs x n xs p r → Going bytes w cs root slots n done x p r payload rest xs
+    going_start rest all xs s f = record { sweep = s; parent = f; before = []; cuts = ap (cut w) (sym all); admitted = λ q i. elim i [ ] }
 
-      in_payload : In (bytes child) (cut w r.payload)
-      in_payload = subst (λ (bs : List ℕ). In (bytes child) (cut w bs)) (sym is) (nth_in (cut w payload) i (bytes child) listed)
+    module _ (rest piece rest' : List ℕ) (cuts : rest ≡ piece ++ rest') (wide : length piece ≡ w) where
+      whole_piece : cond (leb w (length piece)) (Some (key (take w piece))) None ≡ Some (key piece)
+      whole_piece =
+          ap (λ b. cond b (Some (key (take w piece))) None) (le-leb w (length piece) (omega arith))
+          ∙ ap (λ q. Some (key q)) (take_all w piece (omega arith))
 
-      pub child_told : (ys : List (Option K)) (e : Finding) → Admits bytes cs x n child xs ys (Err e) → Tells w cs root slots e
-      child_told ys e =
-          ⊎_elim
-          (λ (a : (e ≡ Broken x) × (StoredUnder cs n (bytes child) → ⊥)). subst (Tells w cs root slots) (sym a.0) (sweep_fault bytes w cs root slots n done xs s pos x p r f (bytes child) in_payload a.1))
-          (λ (a : (e ≡ TableFull) × StoredUnder cs n (bytes child) × (others_only bytes child xs ≡ true)). subst (Tells w cs root slots) (sym a.0) (sweep_full bytes w cs root slots n done xs s child a.1 a.2))
+      -- a piece is read
+      pub no_child : None ≡ cond (leb w (length piece)) (Some (key (take w piece))) None → ⊥
+      no_child h = let t = whole_piece in let z : ◌≡◌ {A = ℕ} 0 1 = cc in omega arith
 
-      pub child_in : (u : Unit {0}) (ys : List (Option K)) → Admits bytes cs x n child xs ys (Ok u) → Admitted bytes cs n (take i (cut w payload)) xs → Sweep bytes w cs root slots n done ys × Parent bytes cs x n ys p r × Admitted bytes cs n (take (i + 1) (cut w payload)) ys
-      child_in u ys a before =
-          let t = sweep_insert bytes w cs root slots n done xs s pos x p r f child in_payload a.0 a.1.0 ys a.1.1 a.1.2 in
-          let more = admitted_insert bytes w cs root slots n done xs s child a.0 a.1.0 ys a.1.1 a.1.2 (take i (cut w payload)) before in
-          (t.0, t.1, subst (λ (qs : List (List ℕ)). Admitted bytes cs n qs ys) (sym (ap (λ k. take k (cut w payload)) (add-one i) ∙ nth_take (cut w payload) i (bytes child) listed)) more)
+      module _ (child : K) (read : Some child ≡ cond (leb w (length piece)) (Some (key (take w piece))) None) (xs : List (Option K)) (g : Going bytes w cs root slots n done x p r payload rest xs) where
+        more : cut w payload ≡ g.before ++ (piece ∷ cut w rest')
+        more = g.cuts ∙ ap (λ qs. g.before ++ qs) (ap (cut w) cuts ∙ cut_more w piece rest' some wide)
 
-    -- within the payload there is one
-    pub no_piece : (width : ℕ) → width ≡ w → i < length payload / width → None ≡ as_key key (slice_get (cut w payload) i) → ⊥
-    no_piece width e lt h =
-        let there = nth_there (cut w payload) i (let l = length_cut w payload ∙ ap (λ k. length payload / k) (sym e) in omega arith) in
-        let bad : None ≡ as_key key (Some there.0) = h ∙ ap (as_key key) there.1 in
-        let z : ◌≡◌ {A = ℕ} 0 1 = cc in omega arith
+        listed : In piece (cut w payload)
+        listed = subst (λ (qs : List (List ℕ)). In piece qs) (sym more) (in_right piece g.before (piece ∷ cut w rest') (inl refl))
 
-    pub pieces-all : (width : ℕ) → width ≡ w → length payload / width ≤ i → Admitted bytes cs n (take i (cut w payload)) xs → Admitted bytes cs n (cut w payload) xs
-    pieces-all width e le a =
-        subst (λ (qs : List (List ℕ)). Admitted bytes cs n qs xs) (take_all i (cut w payload) (let l = length_cut w payload ∙ ap (λ k. length payload / k) (sym e) in omega arith)) a
+        child_is : bytes child ≡ piece
+        child_is =
+            let t = whole_piece in
+            let k : child ≡ key piece = cc in
+            let c = cut_typed w payload piece (subst Bytes is (typed_record w cs on.held (bytes p) r g.parent.is).payload) listed in
+            ap bytes k ∙ on.any piece c.0 c.1
+
+        in_payload : In (bytes child) (cut w r.payload)
+        in_payload = subst (λ (qs : List (List ℕ)). In (bytes child) qs) (ap (cut w) (sym is)) (subst (λ (q : List ℕ). In q (cut w payload)) (sym child_is) listed)
+
+        pub child_told : (ys : List (Option K)) (e : Flaw) → Admits bytes cs x n child xs ys (Err e) → Flawed w cs root slots e
+        child_told ys e =
+            ⊎_elim
+            (λ (a : (e ≡ Broken x) × (StoredUnder cs n (bytes child) → ⊥)). subst (Flawed w cs root slots) (sym a.0) (sweep_fault bytes w cs root slots n done xs g.sweep pos x p r g.parent (bytes child) in_payload a.1))
+            (λ (a : (e ≡ TableFull) × StoredUnder cs n (bytes child) × (others_only bytes child xs ≡ true)). subst (Flawed w cs root slots) (sym a.0) (sweep_full bytes w cs root slots n done xs g.sweep child a.1 a.2))
+
+        pub child_in : (u : Unit {0}) (ys : List (Option K)) → Admits bytes cs x n child xs ys (Ok u) → Going bytes w cs root slots n done x p r payload rest' ys
+        child_in u ys a =
+            let t = sweep_insert bytes w cs root slots n done xs g.sweep pos x p r g.parent child in_payload a.0 a.1.0 ys a.1.1 a.1.2 in
+            record {
+              sweep = t.0;
+              parent = t.1;
+              before = g.before ++ (bytes child ∷ []);
+              cuts = more ∙ ap (λ q. g.before ++ (q ∷ cut w rest')) (sym child_is) ∙ sym (append_assoc g.before (bytes child ∷ []) (cut w rest'));
+              admitted = admitted_insert bytes w cs root slots n done xs g.sweep child a.0 a.1.0 ys a.1.1 a.1.2 g.before g.admitted;
+            }
+
+    pub going_end : (rest : List ℕ) (xs : List (Option K)) → length rest < w → Going bytes w cs root slots n done x p r payload rest xs → Sweep bytes w cs root slots n done xs × Admitted bytes cs n (cut w payload) xs
+    going_end rest xs few g =
+        (g.sweep, subst (λ (qs : List (List ℕ)). Admitted bytes cs n qs xs) (sym (g.cuts ∙ ap (λ qs. g.before ++ qs) (cut_less w rest few) ∙ append-nil g.before)) g.admitted)
 
   -- the payload of the record at a node's place
-  module _ (x : Place) (p : K) (r : Rec) (xs : List (Option K)) (f : Parent bytes cs x n xs p r) where
-    stood : standing cs x ≡ Some r
-    stood = record_there cs (bytes p) (Some x) f.place ∙ f.is
-
-    pub node_copied : (m : ℕ) (buffer after : List ℕ) → Ok m ≡ payload_answer cs x (length buffer) → after ≡ payload_filled cs x buffer → r.payload ≡ take (m - 0) after
-    node_copied m buffer after e a =
-        let d = copied cs x m buffer after e a in
-        let same : r.payload ≡ d.0.payload = ap payload_of (sym stood ∙ d.1) in
-        let k : m ≡ m - 0 = omega arith in
-        same ∙ sym d.2 ∙ ap (λ j. take j after) k
-
-    pub node_refused : (e : Refusal) (space : ℕ) → 7168 ≤ space → Err e ≡ payload_answer cs x space → ⊥
-    node_refused e space big h =
-        let none = not_copied cs x w on.held e space big h in
-        let z : ◌≡◌ {A = ℕ} 0 1 = (let t = stood in cc) in omega arith
+  pub node_payload : (x : Place) (p : K) (r : Rec) (xs : List (Option K)) → Parent bytes cs x n xs p r → payload_of (standing cs x) ≡ r.payload
+  node_payload x p r xs f = ap payload_of (record_there cs (bytes p) (Some x) f.place ∙ f.is)
 
   module _ (done : List (List ℕ)) (p : K) where
     -- a node that is not held, or not stored at the level, is done
@@ -191,10 +225,10 @@ module _ {K : Type 0} (on : Ground K) (root : List ℕ) (slots n : ℕ) where
           let t = found_there cs (bytes p) n x at in
           (t.1.0, record { held = sym (met s.sound (let h = filled_le bytes xs in omega arith)); place = t.0; is = t.1.1; level = t.1.2 })
 
-      pub node_done : (ys : List (Option K)) → Sweep bytes w cs root slots n done ys × Admitted bytes cs n (cut w node_found.0.payload) ys → Sweep bytes w cs root slots n (bytes p ∷ done) ys
+      pub node_done : (ys : List (Option K)) → Sweep bytes w cs root slots n done ys × Admitted bytes cs n (cut w (payload_of (standing cs x))) ys → Sweep bytes w cs root slots n (bytes p ∷ done) ys
       node_done ys a =
           sweep_done bytes w cs root slots n done ys p a.0
-          (λ r g e l. subst (λ (o : Option Rec). Admitted bytes cs n (cut w (payload_of o)) ys) (sym node_found.1.is ∙ e) a.1) (equal_keys bytes key on.back)
+          (λ r g e l. subst (λ (o : Option Rec). Admitted bytes cs n (cut w (payload_of o)) ys) (record_there cs (bytes p) (Some x) node_found.1.place ∙ e) a.1) (equal_keys bytes key on.back)
 
   -- one node more of a container
   pub node_more : (c i : ℕ) (node : K) → Ok node ≡ of_record (λ r. key r.fingerprint) cs (record { container = c; index = i }) → (done : List (List ℕ)) (ys : List (Option K)) → Sweep bytes w cs root slots n (bytes node ∷ (map (λ r. r.fingerprint) (take i (records_of cs c)) ++ done)) ys → Sweep bytes w cs root slots n (map (λ r. r.fingerprint) (take (i + 1) (records_of cs c)) ++ done) ys
@@ -221,7 +255,7 @@ module _ {K : Type 0} (on : Ground K) (root : List ℕ) (slots n : ℕ) where
       let new : List (List ℕ) = map (λ r. r.fingerprint) (records_of cs c) in
       let more : map (λ r. r.fingerprint) (all (take (c + 1) cs)) ≡ old ++ new =
       ap (λ rss. map (λ r. r.fingerprint) (all rss)) (take_more cs c [] lt)
-      ∙ ap (map (λ r. r.fingerprint)) (joined_append (λ rs. rs) (take c cs) (records_of cs c ∷ []) ∙ ap (λ rs. all (take c cs) ++ rs) (append-nil (records_of cs c)))
+      ∙ ap (map (λ r. r.fingerprint)) (flat_map-append (λ rs. rs) (take c cs) (records_of cs c ∷ []) ∙ ap (λ rs. all (take c cs) ++ rs) (append-nil (records_of cs c)))
       ∙ map-append (λ r. r.fingerprint) (all (take c cs)) (records_of cs c) in
       sweep_less bytes w cs root slots n (new ++ old) (map (λ r. r.fingerprint) (all (take (c + 1) cs))) ys
       (λ f j. ⊎_elim (λ k. in_right f new old k) (λ k. in_left f new old k) (in_either f old new (subst (λ (fs : List (List ℕ)). In f fs) more j))) s
@@ -246,19 +280,20 @@ node_stored cs p level e pos = go (record_of cs p) refl
     go None s = absurd (pos (e ∙ ap level_of s))
     go (Some r) s = let is : r.level ≡ level = sym (e ∙ ap level_of s) in (r, s, omega arith, is)
 
--- the findings exclude each other
-pub absent_is : (w : ℕ) (cs : Contents) (root : List ℕ) (slots : ℕ) (e : Finding) → Tells w cs root slots e → (StoredNode cs root → ⊥) → e ≡ NoRoot
-absent_is w cs root slots Whole t none = absurd (none t.top)
-absent_is w cs root slots NoRoot t none = refl
-absent_is w cs root slots (Broken x) t none = absurd (go t.node t.parent t.reached t.is t.above)
+-- a tree with no stored root has that flaw alone
+pub absent_is : (w : ℕ) (held : Contents) (root : List ℕ) (slots : ℕ) (o : Result (Unit {0}) Flaw) → Tells w held root slots o → (StoredNode held root → ⊥) → o ≡ Err NoRoot
+absent_is w held root slots (Ok u) t none = absurd (none t.top)
+absent_is w held root slots (Err NoRoot) t none = refl
+absent_is w held root slots (Err (Broken x)) t none = absurd (go t.node t.parent t.reached t.is t.above)
   where
-    go : (p : List ℕ) (r : Rec) → Reaches w cs root p → record_of cs p ≡ Some r → 1 ≤ r.level → ⊥
+    go : (p : List ℕ) (r : Rec) → Reaches w held root p → record_of held p ≡ Some r → 1 ≤ r.level → ⊥
     go _ r itself e l = none (r, e, l)
     go q r (onward {p} g y e l i) f m = go p y g e l
-absent_is w cs root slots TableFull t none = absurd (none t.0)
+absent_is w held root slots (Err TableFull) t none = absurd (none t.0)
 
-pub whole_is : (w : ℕ) (cs : Contents) (root : List ℕ) (slots : ℕ) (e : Finding) → Tells w cs root slots e → length (all cs) ≤ slots → WholeTree w cs root → e ≡ Whole
-whole_is w cs root slots Whole t space whole = refl
-whole_is w cs root slots NoRoot t space whole = absurd (t whole.top)
-whole_is w cs root slots (Broken x) t space whole = absurd (t.missing (whole.below t.node t.child t.parent t.reached t.is t.above t.lists))
-whole_is w cs root slots TableFull t space whole = absurd (omega (arith, t.1))
+-- a whole tree has none
+pub whole_is : (w : ℕ) (held : Contents) (root : List ℕ) (slots : ℕ) (o : Result (Unit {0}) Flaw) → Tells w held root slots o → length (all held) ≤ slots → Whole w held root → o ≡ Ok tt
+whole_is w held root slots (Ok u) t space whole = refl
+whole_is w held root slots (Err NoRoot) t space whole = absurd (t whole.top)
+whole_is w held root slots (Err (Broken x)) t space whole = absurd (t.missing (whole.below t.node t.child t.parent t.reached t.is t.above t.lists))
+whole_is w held root slots (Err TableFull) t space whole = absurd (omega (arith, t.1))

@@ -8,8 +8,8 @@ use Rattle.slots.specs.declared.probe.Probe.{Probe}
 use Rattle.trees.specs.Holding.{In, record_of}
 use Rattle.trees.specs.Trees.{cut, Reaches, StoredUnder, StoredNode}
 use Rattle.walks.specs.Findings.{Passed}
-use Rattle.walks.specs.declared.finding.Finding.{Finding}
-use Rattle.walks.specs.declared.finding.Finding.TheVariants.{Broken, TableFull}
+use Rattle.walks.specs.declared.flaw.Flaw.{Flaw}
+use Rattle.walks.specs.declared.flaw.Flaw.TheVariants.{Broken, TableFull}
 
 -- no element stands twice
 abbrev pub Distinct : {X : Type 0} → List X → Type 0
@@ -47,18 +47,23 @@ module _ {K : Type 0} (bytes : K → List ℕ) where
     pub is : record_of cs (bytes p) ≡ Some r
     pub level : r.level ≡ n
 
-  -- a child of the node at a place is inserted, or else what is wrong with it
-  abbrev pub Admits : Contents → Place → ℕ → K → List (Option K) → List (Option K) → Result (Unit {0}) Finding → Type 0
+  -- a key goes into the table where it is not held yet, or else every slot is taken by another
+  abbrev pub Enters : K → List (Option K) → List (Option K) → Result (Unit {0}) Flaw → Type 0
+  Enters k xs ys (Ok u) = (p : Probe) × Inserted bytes k xs p ys × (is_full p ≡ false)
+  Enters k xs ys (Err e) = (e ≡ TableFull) × (others_only bytes k xs ≡ true)
+
+  -- a child of the node at a place is entered, or else what is wrong with it
+  abbrev pub Admits : Contents → Place → ℕ → K → List (Option K) → List (Option K) → Result (Unit {0}) Flaw → Type 0
   Admits cs x n k xs ys (Ok u) = StoredUnder cs n (bytes k) × ((p : Probe) × Inserted bytes k xs p ys × (is_full p ≡ false))
   Admits cs x n k xs ys (Err e) = ((e ≡ Broken x) × (StoredUnder cs n (bytes k) → ⊥)) ⊎ ((e ≡ TableFull) × StoredUnder cs n (bytes k) × (others_only bytes k xs ≡ true))
 
   -- all children that a payload lists, of the node at a place that has this payload, are admitted
-  abbrev pub AdmitsAll : ℕ → Contents → Place → ℕ → List ℕ → List (Option K) → List (Option K) → Result (Unit {0}) Finding → Type 0
+  abbrev pub AdmitsAll : ℕ → Contents → Place → ℕ → List ℕ → List (Option K) → List (Option K) → Result (Unit {0}) Flaw → Type 0
   AdmitsAll w cs x n payload xs ys o =
       (root : List ℕ) (slots : ℕ) (done : List (List ℕ)) (p : K) (r : Rec) → Sweep w cs root slots n done xs → Parent cs x n xs p r → r.payload ≡ payload →
       Passed w cs root slots (Sweep w cs root slots n done ys × Admitted cs n (cut w payload) ys) o
 
   -- an examination that stands at n and done with the table xs comes to m and done' with ys
-  abbrev pub Moves : ℕ → Contents → ℕ → List (List ℕ) → List (Option K) → ℕ → List (List ℕ) → List (Option K) → Result (Unit {0}) Finding → Type 0
+  abbrev pub Moves : ℕ → Contents → ℕ → List (List ℕ) → List (Option K) → ℕ → List (List ℕ) → List (Option K) → Result (Unit {0}) Flaw → Type 0
   Moves w cs n done xs m done' ys o =
       (root : List ℕ) (slots : ℕ) → Sweep w cs root slots n done xs → Passed w cs root slots (Sweep w cs root slots m done' ys) o

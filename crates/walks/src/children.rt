@@ -9,29 +9,36 @@ use devices::Device;
 use keys::{Fingerprint, Key};
 use records::Place;
 
-// The most payload bytes of a container, so that a buffer of this length takes any payload.
+// The most payload bytes of a container, so that a buffer of this length takes any payload. No call here may allocate: a payload is read
+// into an array, whatever its length.
 pub(crate) const LONGEST: usize = 7168;
+
+// The payload of the record at a place, copied into a buffer; no bytes where there is no such record.
+pub(crate) fn payload_at<'b, D: Device>(
+    device: &D,
+    place: Place,
+    buffer: &'b mut [u8; LONGEST],
+) -> &'b [u8]
+    ensures { result.now ≡ payload_of (standing (D.contents device.now) place) }
+{
+    let long = device.payload(place, buffer).unwrap_or(0);
+    &buffer[..long]
+}
 
 // The fingerprint at an index of a payload, if the payload has so many.
 pub(crate) fn piece_at<F: Fingerprint>(payload: &[u8], index: usize) -> Option<F>
     ensures { result ≡ as_key F.Key.key (slice_get (cut F.Key.WIDE payload.now) index) }
 {
-    let width = F::WIDE;
-    if index >= payload.len() / width {
-        return None;
-    }
-    F::read(&payload[index * width..])
+    let start = index.checked_mul(F::WIDE)?;
+    F::read(payload.get(start..)?)
 }
 
 // The child at an index of the record at a place, if there is one.
 pub(crate) fn child_at<D: Device>(device: &D, place: Place, index: usize) -> Option<D::Kind>
     ensures { result ≡ as_key D.Kind.Key.key (slice_get (cut D.Kind.Key.WIDE (payload_of (standing (D.contents device.now) place))) index) }
 {
-    let mut buffer = [0u8; LONGEST];
-    match device.payload(place, &mut buffer) {
-        Ok(long) => piece_at(&buffer[0..long], index),
-        Err(_) => None,
-    }
+    let mut buffer = [0; LONGEST];
+    piece_at(payload_at(device, place, &mut buffer), index)
 }
 
 // How many children the record at a place has.
@@ -39,8 +46,5 @@ pub(crate) fn child_count<D: Device>(device: &D, place: Place) -> usize
     ensures is { result ≡ length (cut D.Kind.Key.WIDE (payload_of (standing (D.contents device.now) place))) }
     ensures few { result ≤ 7168 }
 {
-    match device.payload_len(place) {
-        Ok(long) => long / D::Kind::WIDE,
-        Err(_) => 0,
-    }
+    device.payload_len(place).unwrap_or(0) / D::Kind::WIDE
 }

@@ -1,14 +1,14 @@
 // Walks over trees of records, on any device: the cursor's descent, and the examination of a tree.
 #![tactic(auto)]
 
+pub mod astray;
 mod children;
 pub mod cursor;
 pub mod examination;
-pub mod finding;
-pub mod lead;
+pub mod flaw;
 mod sweep;
 
+pub use astray::Astray;
 pub use cursor::{leads_to, position_after, strip_at};
 pub use examination::examine;
-pub use finding::Finding;
-pub use lead::Lead;
+pub use flaw::Flaw;

@@ -1,13 +1,14 @@
-use Rattle.std.proofs.Common.{◌≡◌, ℕ, List, drop}
+use Rattle.std.proofs.Common.{◌≡◌, drop, Option}
+use Rattle.records.specs.Records.{Rec}
+use Rattle.records.specs.declared.refusal.Cause.{Cause}
+use Rattle.records.specs.declared.refusal.Place.{Place}
 use Rattle.devices.specs.Questions.{records_of}
-use Rattle.admission.specs.Causes.{cause_of}
-use Rattle.admission.specs.Admission.{refused_among}
+use Rattle.admission.specs.Admission.{Judges, refused_among}
 use Rattle.admission.proofs.examining.examine_container.Given as goal
 
 -- from this index on the search finds what it finds from the first
 abbrev pub invariant-loop-index : goal.invariant-loop-index
 invariant-loop-index g l =
     let cs = g.D.Device.contents l.device in
-    let name : ℕ → List ℕ → List ℕ = λ l p. g.D.Kind.Key.bytes (g.D.Kind.Fingerprint.naming l p) in
-    let judge = cause_of g.D.Kind.Key.WIDE name cs l.examination in
-    refused_among judge l.container l.index (drop l.index (records_of cs l.container)) ≡ refused_among judge l.container 0 (records_of cs l.container)
+    let rs = records_of cs l.container in
+    (judge : Place → Rec → Option Cause) → Judges judge cs (goal.F-post g l.test) → refused_among judge l.container l.index (drop l.index rs) ≡ refused_among judge l.container 0 rs

@@ -1,18 +1,17 @@
-use Rattle.std.proofs.Common.{sym, ◌∙◌, arith}
-use Rattle.admission.proofs.Searching.{free_here, free_more, free_all}
+use Rattle.std.proofs.Common.{ℕ, Bool, ap, ◌∙◌, arith, rules}
+use Rattle.std.specs.List.{list_any, range_with_len}
+use Rattle.std.proofs.lemmas.Iterator.{YieldsList-from_range}
+use Rattle.std.proofs.lemmas.Iterator.Search.{any_from_yields_List}
+use Rattle.devices.specs.Questions.{is_free}
+use Rattle.admission.proofs.Searching.{free_by_number}
 use Rattle.admission.proofs.examining.has_free.Goals as goal
-
-pub returns-then-is_free : goal.returns-then-is_free
-returns-then-is_free g c =
-    let cs = g.D.Device.contents c.args.device.now in
-    sym (free_here cs c.loop-container.container (let n = c.count-container-end.ensures in let t = c.loop-container-test.true in omega arith) (sym c.is_free.ensures ∙ c.if-is_free.true)) ∙ c.loop-container.invariant
-
-pub loop-container-preserved : goal.loop-container-preserved
-loop-container-preserved g c =
-    let cs = g.D.Device.contents c.args.device.now in
-    sym (free_more cs c.loop-container.container (let n = c.count-container-end.ensures in let t = c.loop-container-test.true in omega arith) (sym c.is_free.ensures ∙ c.if-is_free.false)) ∙ c.loop-container.invariant
+use borrow.Author.Tests.{tests}
 
 pub returns : goal.returns
 returns g c =
     let cs = g.D.Device.contents c.args.device.now in
-    sym (free_all cs c.loop-container.container (let n = c.count-container-end.ensures in let t = c.loop-container-test.false in omega arith)) ∙ c.loop-container.invariant
+    let free : ℕ → Bool = is_free cs in
+    let n = c.count.result in
+    any_from_yields_List free _ _ c.any.result c.any.ensures.ran (YieldsList-from_range 0 n n (cc) (omega arith)) (λ x b q k. search (rules, tests))
+    ∙ ap (λ k. list_any free (range_with_len 0 k)) c.count.ensures
+    ∙ free_by_number cs

@@ -1,7 +1,6 @@
-use Rattle.std.proofs.Common.{rules}
-use Rattle.std.proofs.lemmas.Slice.{overwrites}
-use Rattle.std.proofs.lemmas.List.{places}
+use Rattle.std.proofs.Common.{◌<◌, arith}
+use Rattle.std.proofs.ByRecursion.{All-from_get_or}
 use Rattle.container_file.proofs.changes.put.Goals as goal
 
-pub returns : goal.returns
-returns c = record { len = search (rules, places, overwrites); after = search (rules, overwrites) }
+pub returns-clause-octets : goal.returns-clause-octets
+returns-clause-octets c = All-from_get_or (λ b. b < 256) c.args.from.now 0 (λ i h. let f = c.type_inv.from i in omega arith)

@@ -1,5 +1,5 @@
 use Rattle.container_format.proofs.Turn.{Held}
 use Rattle.container_format.proofs.acceptance.entries_in_order.Given as goal
 
-abbrev pub invariant-loop-i : goal.invariant-loop-i
-invariant-loop-i l = Held l.width l.used l.count l.i l.offset l.rest l.left l.entries l.body
+abbrev pub invariant-loop-entry : goal.invariant-loop-entry
+invariant-loop-entry g l = Held g.F.Key.WIDE l.used l.count l.offset l.entry-iterator.size l.entry-iterator.rest.now l.unused l.entries l.body

@@ -1,9 +1,11 @@
-use Rattle.placing.proofs.Rules.{rule_of, stays_there}
+use Rattle.std.proofs.Common.{◌≡◌, rules}
+use Rattle.placing.specs.Placings.{chosen}
+use Rattle.placing.proofs.Rules.{rule_of}
 use Rattle.placing.proofs.choosing.choose.Goals as goal
 
-pub returns : goal.returns
-returns g c =
+pub returns-clause-rule : goal.returns-clause-rule
+returns-clause-rule g c =
     let cs = g.D.Device.contents c.args.device.now in
     let a = c.args in
-    let e = c.pick.ensures in
-    record { answer = e; rule = rule_of cs a.open a.last a.spare a.len c.pick.result e; stays = stays_there cs a.open a.last a.spare a.len c.pick.result e }
+    let e : c.or_else.result ≡ chosen cs a.filling a.spare a.len = search rules in
+    rule_of cs a.filling a.spare a.len c.or_else.result e

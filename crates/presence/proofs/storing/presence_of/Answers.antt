@@ -1,15 +1,8 @@
-use Rattle.std.proofs.Common.{Some, None, ap, ◌∙◌}
-use Rattle.walks.proofs.Down.{record_there}
-use Rattle.presence.specs.Presences.{present_as}
+use Rattle.std.proofs.Common.{◌∙◌, rules}
+use Rattle.presence.proofs.Looking.{presence_told}
 use Rattle.presence.proofs.storing.presence_of.Goals as goal
 
-pub returns-in-None : goal.returns-in-None
-returns-in-None g c =
-    ap (present_as c.args.level c.args.payload.now)
-    (record_there (g.D.Device.contents c.args.device.now) (g.D.Kind.Key.bytes c.args.fingerprint) None c.in-None.ensures)
-
-pub returns-in-Some : goal.returns-in-Some
-returns-in-Some g c =
-    c.present_at.ensures
-    ∙ ap (present_as c.args.level c.args.payload.now)
-    (record_there (g.D.Device.contents c.args.device.now) (g.D.Kind.Key.bytes c.args.fingerprint) (Some c.in-Some.place) c.in-Some.ensures)
+pub returns : goal.returns
+returns g c =
+    c.unwrap_or.ensures
+    ∙ presence_told c.args.wanted.level c.args.wanted.payload.now (g.D.Device.contents c.args.device.now) (g.D.Kind.Key.bytes c.args.wanted.fingerprint) c.first_place.result c.first_place.ensures c.and_then.result _ c.and_then.ensures (λ x q. search rules)

@@ -1,24 +1,18 @@
-use Rattle.std.proofs.Common.{take, replicate, sym, ap, ◌∙◌, lit≤}
-use native.Mathlib.Nat.{sub-zero}
-use Rattle.walks.proofs.Told.{told, untold_none, copied, not_copied}
+use Rattle.std.proofs.Common.{replicate, sym, ap, ◌∙◌, lit≤}
+use Rattle.walks.proofs.Told.{told_some, copied_some, copied_none}
 use Rattle.trees.specs.Holding.{standing}
-use Rattle.presence.specs.Presences.{present_as}
-use Rattle.presence.proofs.Looking.{present_told}
+use Rattle.presence.proofs.Looking.{said, said_told}
 use Rattle.presence.proofs.storing.present_at.Goals as goal
 
-pub returns-in_default : goal.returns-in_default
-returns-in_default g c =
+pub returns-in_err-long : goal.returns-in_err-long
+returns-in_err-long g c =
     let cs = g.D.Device.contents c.args.device.now in
-    sym (ap (present_as c.args.level c.args.payload.now) (untold_none cs c.args.place (λ r. r.level) c.in_default.field-0 c.in_default.ensures))
+    c.from_residual-in_err-long.ensures
+    ∙ sym (ap (said c.args.level c.args.payload.now) (copied_none cs c.args.place g.D.Kind.Key.WIDE (g.met.D.Device.held c.args.device.now) 7168 (lit≤ tt) c.payload.result c.in_err-long.ensures.value c.payload.ensures.answer))
 
-pub returns-in-Ok-payload : goal.returns-in-Ok-payload
-returns-in-Ok-payload g c =
+pub returns : goal.returns
+returns g c =
     let cs = g.D.Device.contents c.args.device.now in
-    let t = told cs c.args.place (λ r. r.level) c.in-Ok.stored c.in-Ok.ensures in
-    let p = copied cs c.args.place c.in-Ok-payload.len (replicate 7168 0) c.payload.new.to c.in-Ok-payload.ensures.answer c.in-Ok-payload.ensures.buffer in
-    present_told (standing cs c.args.place) t.0 p.0 _ c.args.level _ c.args.payload.now _ t.1 t.2 p.1 (ap (λ n. take n c.payload.new.to) (sub-zero c.in-Ok-payload.len) ∙ p.2) c.compared.ensures
-
-pub returns-in-Err : goal.returns-in-Err
-returns-in-Err g c =
-    let cs = g.D.Device.contents c.args.device.now in
-    sym (ap (present_as c.args.level c.args.payload.now) (not_copied cs c.args.place g.D.Kind.Key.WIDE (g.met.D.Device.held c.args.device.now) c.in-Err.field-0 7168 (lit≤ tt) c.in-Err.ensures.answer))
+    let t = told_some cs c.args.place (λ r. r.level) c.in_ok-stored.stored c.level.result c.in_ok-stored.ensures.value c.level.ensures in
+    let p = copied_some cs c.args.place c.in_ok-long.long (replicate 7168 0) c.payload.new.to c.payload.result c.in_ok-long.ensures.value c.payload.ensures.answer c.payload.ensures.buffer in
+    said_told c.args.level c.args.payload.now (standing cs c.args.place) t.0 p.0 c.in_ok-stored.stored _ c.compared.result t.1 t.2 p.1 p.2 c.compared.ensures

@@ -1,16 +1,9 @@
-use Rattle.std.proofs.Common.{length, lit≤}
-use Rattle.walks.proofs.Told.{untold_none, count_told, none_counted}
+use Rattle.std.proofs.Common.{div-le_self, arith}
+use Rattle.walks.proofs.Told.{count_told}
 use Rattle.walks.proofs.children.child_count.Goals as goal
 
-pub returns-in-Ok : goal.returns-in-Ok
-returns-in-Ok g c =
-    let t = count_told g.D.Kind.Key.WIDE (g.D.Device.contents c.args.device.now) c.args.place (g.met.D.Device.held c.args.device.now) c.width.result c.in-Ok.long c.WIDE.ensures c.in-Ok.ensures in
-    record { is = t.0; few = t.1 }
-
-pub returns-in-Err : goal.returns-in-Err
-returns-in-Err g c =
-    let cs = g.D.Device.contents c.args.device.now in
-    record {
-      is = none_counted g.D.Kind.Key.WIDE cs c.args.place (g.met.D.Device.held c.args.device.now) (untold_none cs c.args.place (λ r. length r.payload) c.in-Err.field-0 c.in-Err.ensures);
-      few = lit≤ tt;
-    }
+pub returns : goal.returns
+returns g c =
+    let w = g.D.Kind.Key.WIDE in
+    let t = count_told w (g.D.Device.contents c.args.device.now) c.args.place (g.met.D.Device.held c.args.device.now) c.payload_len.result c.payload_len.ensures in
+    record { is = rw (c.WIDE.ensures, c.unwrap_or.ensures) t.0; few = omega (arith, div-le_self c.unwrap_or.result c.WIDE.result, c.unwrap_or.ensures, t.1) }

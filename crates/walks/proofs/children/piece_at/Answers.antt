@@ -1,25 +1,26 @@
-use Rattle.std.proofs.Common.{◌+◌, ◌*◌, ◌≤◌, length, rules}
-use Rattle.walks.proofs.Told.{piece_space, piece_read, piece_none}
-use Rattle.walks.proofs.children.piece_at.Given as given
+use Rattle.std.proofs.Common.{◌≡◌, ◌+◌, ◌*◌, ◌<◌, length, drop, sym, ◌∙◌, ap, arith}
+use Rattle.std.proofs.lemmas.List.{take_rest}
+use Rattle.walks.proofs.Told.{piece_none, piece_read}
 use Rattle.walks.proofs.children.piece_at.Goals as goal
 
-pub returns-then-index-payload : goal.returns-then-index-payload
-returns-then-index-payload g c =
-    piece_none g.F.Key.key g.F.Key.WIDE c.width-width.result c.width-width.ensures g.met.F.Fingerprint.some c.args.payload.now c.args.index c.if-index-payload.true
+pub returns-in_err-start : goal.returns-in_err-start
+returns-in_err-start g c =
+    let e = c.WIDE.ensures in
+    let h : c.args.index * c.WIDE.result < 18446744073709551616 → ⊥ = c.in_err-start.ensures in
+    let past : length c.args.payload.now < c.args.index * g.F.Key.WIDE + g.F.Key.WIDE = rw (sym e) (omega arith) in
+    c.from_residual.ensures ∙ piece_none g.F.Key.key g.F.Key.WIDE g.met.F.Fingerprint.some c.args.payload.now c.args.index past
 
--- the piece ends within the payload
-space : (g : given.Over) (c : goal.Else-index-payload g) → c.args.index * c.width-width.result + c.width-width.result ≤ length c.args.payload.now
-space g c = piece_space g.F.Key.key g.F.Key.WIDE c.width-width.result c.width-width.ensures g.met.F.Fingerprint.some c.args.payload.now c.args.index c.if-index-payload.false
-
-pub overflow_mul-index : goal.overflow_mul-index
-overflow_mul-index g c = let h = space g c in search rules
-
-pub slice_bounds-read-count : goal.slice_bounds-read-count
-slice_bounds-read-count g c = let h = space g c in search rules
-
-pub slice_bounds-read-start : goal.slice_bounds-read-start
-slice_bounds-read-start g c = let h = space g c in search rules
+pub returns-in_err-get : goal.returns-in_err-get
+returns-in_err-get g c =
+    let e = c.WIDE.ensures in
+    let l = c.in_err-get.ensures.lookup in
+    let past : length c.args.payload.now < c.args.index * g.F.Key.WIDE + g.F.Key.WIDE = rw (sym e) (omega (arith, c.in_ok-start.ensures)) in
+    c.from_residual-in_err-get.ensures ∙ piece_none g.F.Key.key g.F.Key.WIDE g.met.F.Fingerprint.some c.args.payload.now c.args.index past
 
 pub returns : goal.returns
 returns g c =
-    piece_read g.F.Key.key g.F.Key.WIDE c.width-width.result c.width-width.ensures g.met.F.Fingerprint.some c.args.payload.now c.args.index c.read.result c.if-index-payload.false c.read.ensures
+    let e = c.WIDE.ensures in
+    let l = c.in_ok-get.ensures.lookup in
+    let start : c.in_ok-start.start ≡ c.args.index * g.F.Key.WIDE = c.in_ok-start.ensures.1 ∙ ap (λ n. c.args.index * n) e in
+    piece_read g.F.Key.key g.F.Key.WIDE g.met.F.Fingerprint.some c.args.payload.now c.args.index c.in_ok-get.field-0.now
+    (l.0.2 ∙ take_rest c.args.payload.now c.in_ok-start.start ∙ ap (λ n. drop n c.args.payload.now) start) (omega arith) c.read.result c.read.ensures

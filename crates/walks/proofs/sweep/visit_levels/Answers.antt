@@ -4,10 +4,10 @@ use Rattle.walks.specs.Sweeps.{Sweep}
 use Rattle.walks.proofs.Visiting.{passed_err}
 use Rattle.walks.proofs.sweep.visit_levels.Goals as goal
 
-pub returns-in_err-visit_level : goal.returns-in_err-visit_level
-returns-in_err-visit_level g c root slots s =
-    passed_err g.D.Kind.Key.WIDE (g.D.Device.contents c.args.device.now) root slots _ c.from_residual.result c.in_err-visit_level.field-0.0 c.from_residual.ensures.1
-    (c.in_err-visit_level.ensures root slots (c.loop-level.invariant root slots s))
+pub returns-in_err-visit : goal.returns-in_err-visit
+returns-in_err-visit g c root slots s =
+    passed_err g.D.Kind.Key.WIDE (g.D.Device.contents c.args.device.now) root slots _ c.from_residual.result c.in_err-visit.field-0.0 c.from_residual.ensures.1
+    (c.in_err-visit.ensures root slots (c.loop-level.invariant root slots s))
 
 pub returns : goal.returns
 returns g c root slots s =

@@ -9,6 +9,3 @@ invariant-loop-level g l =
     let w = g.D.Kind.Key.WIDE in
     let cs = g.D.Device.contents l.device in
     (root : List ℕ) (slots : ℕ) → Sweep b w cs root slots l.top [] (keys_of l.initial.table) → Sweep b w cs root slots l.level [] (keys_of l.table)
-
-abbrev pub decreases-loop-level : goal.decreases-loop-level
-decreases-loop-level g l = l.level

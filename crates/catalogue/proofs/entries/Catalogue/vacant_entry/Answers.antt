@@ -1,5 +1,5 @@
 use Rattle.std.proofs.Common.{◌∙◌}
-use Rattle.catalogue.proofs.Rows.{vacant_entry_kept}
+use Rattle.catalogue.proofs.Kept.{vacant_entry_kept}
 use Rattle.catalogue.proofs.entries.Catalogue.vacant_entry.Goals as goal
 
 pub returns : goal.returns
