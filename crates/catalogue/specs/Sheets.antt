@@ -1,8 +1,17 @@
 -- What the entries of a catalogue keep, where a name stands among them, and how many readings are out.
-use Rattle.std.specs.Prelude.{ℕ, Bool, false, List, map, Some, None, is_none, position, sum_by, Option}
+use Rattle.std.specs.Prelude.{ℕ, ◌<◌, Bool, false, List, map, Some, None, is_none, position, sum_by, Option}
 use Rattle.keys.specs.Octets.{same_bytes}
 use Rattle.catalogue.specs.Names.{spelled}
 use Rattle.catalogue.specs.declared.sheet.Sheet.{Sheet}
+
+-- how many readings the sheet at an entry says to be out
+abbrev pub count_of : {F : Type 0} → Option (Sheet F) → ℕ
+count_of None = 0
+count_of (Some s) = s.readings
+
+-- a byte counts them
+abbrev pub Counted : {F : Type 0} → Option (Sheet F) → Type 0
+Counted e = count_of e < 256
 
 -- a kept sheet: the bytes of its name, the fingerprint of its root, and how many readings of it are out
 pub record Kept : Type 0 where

@@ -6,5 +6,6 @@ use crate::name::Name;
 pub struct Sheet<F> {
     pub name: Name,
     pub root: F,
-    pub readings: u8,
+    // A number as wide as callers may give; a catalogue takes in those that a byte counts.
+    pub readings: usize,
 }

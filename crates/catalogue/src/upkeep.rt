@@ -1,6 +1,6 @@
 // The calls of a catalogue.
-ghost use Rattle.std.specs.Prelude.{◌≡◌, replicate, None, slice_index_or, slice_set};
-ghost use Rattle.catalogue.specs.Sheets.{kept_of, kept_all, entry_of, vacant_entry, readings_of, readings_out};
+ghost use Rattle.std.specs.Prelude.{◌≡◌, ◌≤◌, ◌↔◌, All, IsTrue, length, replicate, None, slice_index_or, slice_set};
+ghost use Rattle.catalogue.specs.Sheets.{Counted, kept_of, kept_all, entry_of, vacant_entry, readings_of, readings_out};
 
 use crate::entries::Catalogue;
 use crate::search::{find, vacancy};
@@ -9,9 +9,40 @@ use keys::Key;
 
 // How many readings of an entry's sheet are out.
 fn readings_of<F: Key>(entry: Option<Sheet<F>>) -> u8
+    requires { Counted entry }
     ensures { result ≡ readings_of (kept_of F.Key.bytes entry) }
 {
-    entry.map_or(0, |sheet| sheet.readings)
+    entry.map_or(0, |sheet| sheet.readings as u8)
+}
+
+// Whether a byte counts the readings of an entry's sheet.
+fn is_counted<F: Copy>(entry: Option<Sheet<F>>) -> bool
+    ensures { IsTrue result ↔ Counted entry }
+{
+    entry.is_none_or(|sheet| sheet.readings < 256)
+}
+
+// What stands at an entry; nothing past the last one.
+fn sheet_in<F: Key>(entries: &[Option<Sheet<F>>], entry: usize) -> Option<Sheet<F>>
+    requires { All Counted entries.now }
+    ensures kept { kept_of F.Key.bytes result ≡ slice_index_or (kept_all F.Key.bytes entries.now) entry None }
+    ensures counted { Counted result }
+{
+    entries.get(entry).copied().flatten()
+}
+
+// How many readings of the sheets of at most 64 entries are out.
+fn readings_in<F: Key>(entries: &[Option<Sheet<F>>]) -> usize
+    requires few { length entries.now ≤ 64 }
+    requires counted { All Counted entries.now }
+    ensures { result ≡ readings_out (kept_all F.Key.bytes entries.now) }
+{
+    // A loop, since a closure of a chain would not know that a byte counts the readings.
+    let mut out = 0;
+    for entry in entries {
+        out += usize::from(readings_of(*entry));
+    }
+    out
 }
 
 impl<F: Key> Catalogue<F> {
@@ -45,11 +76,12 @@ impl<F: Key> Catalogue<F> {
         vacancy(&self.entries)
     }
 
-    // What stands at an entry; nothing past the last one.
+    // What stands at an entry; nothing past the last one. A byte counts its readings that are out.
     pub fn sheet(&self, entry: usize) -> Option<Sheet<F>>
-        ensures { kept_of F.Key.bytes result ≡ slice_index_or (kept_all F.Key.bytes self.now.entries) entry None }
+        ensures kept { kept_of F.Key.bytes result ≡ slice_index_or (kept_all F.Key.bytes self.now.entries) entry None }
+        ensures counted { Counted result }
     {
-        self.entries.get(entry).copied().flatten()
+        sheet_in(&self.entries, entry)
     }
 
     // How many readings of the sheet at an entry are out.
@@ -59,12 +91,13 @@ impl<F: Key> Catalogue<F> {
         readings_of(self.sheet(entry))
     }
 
-    // Puts a sheet at an entry, or takes away what stands there; past the last entry nothing changes.
+    // Puts a sheet at an entry, or takes away what stands there. Past the last entry nothing changes, nor for a sheet with more readings than a byte counts.
     pub fn put(&mut self, entry: usize, sheet: Option<Sheet<F>>)
-        ensures { kept_all F.Key.bytes self.new.entries ≡ slice_set (kept_all F.Key.bytes self.old.entries) entry (kept_of F.Key.bytes sheet) }
+        ensures counted { Counted sheet → kept_all F.Key.bytes self.new.entries ≡ slice_set (kept_all F.Key.bytes self.old.entries) entry (kept_of F.Key.bytes sheet) }
+        ensures uncounted { ¬ Counted sheet → self.new.entries ≡ self.old.entries }
     {
         // By index: `get_mut` does not say what the table ends as.
-        if entry < self.entries.len() {
+        if is_counted(sheet) && entry < self.entries.len() {
             self.entries[entry] = sheet;
         }
     }
@@ -73,9 +106,6 @@ impl<F: Key> Catalogue<F> {
     pub fn readings_out(&self) -> usize
         ensures { result ≡ readings_out (kept_all F.Key.bytes self.now.entries) }
     {
-        self.entries
-            .iter()
-            .map(|entry| usize::from(readings_of(*entry)))
-            .sum()
+        readings_in(&self.entries)
     }
 }
