@@ -1,15 +1,14 @@
 -- How the search for the first refusal, and for a free container, goes on.
-use Rattle.std.proofs.Common.{◌≡◌, ℕ, suc, ◌+◌, ◌<◌, Bool, false, ◌&&◌, ◌||◌, List, [], ◌∷◌, length, get_or, drop, map, Some, None, Ok, Option, sym, refl, ap, ◌∙◌, add-one, arith}
-use Rattle.std.proofs.lemmas.Bool.{lt-ltb}
-use Rattle.std.proofs.lemmas.List.{at_drop_more, length-map, get_or-map}
-use Rattle.std.proofs.lemmas.List.FromFn.{fill_by_all}
+use Rattle.std.proofs.Common.{◌≡◌, ℕ, suc, ◌+◌, ◌<◌, Bool, false, ◌||◌, List, [], ◌∷◌, length, get_or, drop, map, Some, None, Ok, Option, sym, refl, ap, ◌∙◌, add-one, arith}
+use Rattle.std.proofs.lemmas.List.{at_drop_more}
 use Rattle.std.specs.List.{list_any, range_with_len}
 use Rattle.std.specs.Option.{option_or}
 use Rattle.records.specs.Records.{Rec, Contents}
 use Rattle.records.specs.declared.refusal.Cause.{Cause}
 use Rattle.records.specs.declared.refusal.Place.{Place}
 use Rattle.records.specs.declared.refusal.Refusal.{Refusal}
-use Rattle.devices.specs.Questions.{records_of, unused, is_free}
+use Rattle.devices.specs.Questions.{unused, is_free}
+use Rattle.devices.proofs.Freeing.{free_by_number}
 use Rattle.admission.specs.Admission.{refused_at, refused_among, refused_from, some_free, answer_by}
 
 -- an answer without a refusal
@@ -42,9 +41,5 @@ any_map test [] = refl
 any_map test (x ∷ xs) = ap (λ b. test x || b) (any_map test xs)
 
 -- some container is free where one of the numbers is that of a free one
-pub free_by_number : (cs : Contents) → list_any (is_free cs) (range_with_len 0 (length cs)) ≡ some_free cs
-free_by_number cs =
-    let same : map unused cs ≡ map (is_free cs) (range_with_len 0 (length cs)) =
-    fill_by_all (is_free cs) (map unused cs) (length cs) false (length-map cs unused) (λ c h. get_or-map unused cs c [] false h ∙ ap (λ b. b && unused (records_of cs c)) (sym (lt-ltb c (length cs) h)))
-    in
-    any_map (is_free cs) _ ∙ ap (list_any (λ b. b)) (sym same) ∙ sym (any_map unused cs)
+pub some_free_by_number : (cs : Contents) → list_any (is_free cs) (range_with_len 0 (length cs)) ≡ some_free cs
+some_free_by_number cs = any_map (is_free cs) _ ∙ ap (list_any (λ b. b)) (sym (free_by_number (λ b. b) false cs)) ∙ sym (any_map unused cs)

@@ -1,3 +1,4 @@
 pub mod Appends
 pub mod Holding
 pub mod Asking
+pub mod Freeing

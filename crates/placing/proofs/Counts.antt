@@ -1,13 +1,13 @@
 -- The count of the free containers, by their numbers and as containers change.
-use Rattle.std.proofs.Common.{◌≡◌, ℕ, suc, ◌+◌, ◌<◌, ◌≤◌, cond, ◌&&◌, List, [], ◌∷◌, ◌++◌, length, map, sum, count_by, sym, ap, ◌∙◌, ⊎_elim, arith}
+use Rattle.std.proofs.Common.{◌≡◌, ℕ, suc, ◌+◌, ◌<◌, ◌≤◌, cond, List, [], ◌∷◌, ◌++◌, length, sum, count_by, sym, ap, ◌∙◌, ⊎_elim, arith}
 use Rattle.std.specs.List.{range_with_len}
-use Rattle.std.proofs.lemmas.List.{nil_from_length, length_push, length-map, get_or-map}
-use Rattle.std.proofs.lemmas.List.FromFn.{fill_by_all}
+use Rattle.std.proofs.lemmas.List.{nil_from_length, length_push}
 use Rattle.std.proofs.lemmas.List.Sums.{sum-map, sum_by-cons, sum_by-set}
-use Rattle.std.proofs.lemmas.Bool.{cases_lt, cond-false, ne_eqb, lt-ltb}
+use Rattle.std.proofs.lemmas.Bool.{cases_lt, cond-false, ne_eqb}
 use Rattle.records.specs.Records.{Rec, Contents}
 use Rattle.devices.specs.Questions.{records_of, unused, is_free}
 use Rattle.devices.specs.Changes.{appended}
+use Rattle.devices.proofs.Freeing.{free_by_number}
 use Rattle.placing.specs.Openings.{free_count, Free}
 
 -- what a container adds to the count
@@ -18,10 +18,7 @@ share rs = cond (unused rs) 1 0
 pub counted_by_number : (cs : Contents) → count_by (is_free cs) (range_with_len 0 (length cs)) ≡ free_count cs
 counted_by_number cs =
     let by_number : ℕ → ℕ = λ c. cond (is_free cs c) 1 0 in
-    let same : map share cs ≡ map by_number (range_with_len 0 (length cs)) =
-    fill_by_all by_number (map share cs) (length cs) 0 (length-map cs share) (λ c h. get_or-map share cs c [] 0 h ∙ ap (λ b. cond (b && unused (records_of cs c)) 1 0) (sym (lt-ltb c (length cs) h)))
-    in
-    sym (sum-map by_number (range_with_len 0 (length cs))) ∙ ap sum (sym same) ∙ sum-map share cs
+    sym (sum-map by_number (range_with_len 0 (length cs))) ∙ ap sum (sym (free_by_number (λ b. cond b 1 0) 0 cs)) ∙ sum-map share cs
 
 -- a container with records adds nothing
 share-used : (rs : List Rec) → 0 < length rs → share rs ≡ 0
