@@ -1,10 +1,10 @@
 -- Bits that are set stay set, and cleared bytes have none.
-use Rattle.std.proofs.Common.{◌≡◌, ℕ, zero, suc, ◌*◌, ◌/◌, ◌%◌, ◌^◌, ◌<◌, ◌≤◌, min, Bool, true, false, cond, ◌&&◌, ◌||◌, eqb, ◌⊎◌, List, ◌++◌, length, get_or, drop, replicate, sym, refl, ap, ◌∙◌, subst, inl, inr, arith}
+use Rattle.std.proofs.Common.{◌≡◌, ℕ, zero, suc, ◌*◌, ◌/◌, ◌%◌, ◌^◌, ◌<◌, ◌≤◌, min, Bool, true, false, cond, ◌&&◌, ◌||◌, eqb, ◌⊎◌, List, ◌++◌, length, get_or, take, drop, set, replicate, take-append-drop, sym, refl, ap, ◌∙◌, subst, inl, inr, arith}
 use native.Mathlib.Nat.{zero-div}
 use lib.Bits.{bit_or, or_comm}
 use Rattle.std.proofs.lemmas.Nat.Bits.{bit_at-lt, bit_at_or, bit_at-pow_same}
 use Rattle.std.specs.Int.{bit_at}
-use Rattle.std.proofs.lemmas.List.{get_or-set_same, get_or-set_other, length-set, length-replicate, length-append, length-drop, get_or_append_left, get_or-replicate, drop-set-lt}
+use Rattle.std.proofs.lemmas.List.{get_or-set_same, get_or-set_other, length-set, length-replicate, length-append, length-drop, get_or_append_left, get_or-replicate, drop-set-lt, get_or-take, length-take-le, set-append_left}
 use Rattle.std.proofs.lemmas.Nat.{mod_below}
 use Rattle.std.proofs.lemmas.Bool.{cases_eq, eqb-true, eqb-false, eq-eqb, ne_eqb, and_parts, and_from, and_left, and_right, or_from}
 use Rattle.std.specs.List.{list_all, range_with_len}
@@ -73,11 +73,6 @@ four_by false b c d = refl
 pub four_tests : (f : ℕ → ℕ) (bs : List ℕ) → list_all (λ s. is_set bs (f s)) (range_with_len 0 4) ≡ all_set f 4 bs
 four_tests f bs = four_by (is_set bs (f 0)) (is_set bs (f 1)) (is_set bs (f 2)) (is_set bs (f 3))
 
-pub bits_say : (key bs : List ℕ) (L : ℕ) (v : Bool) → L ≡ used bs → (L ≡ 0 → ⊥) → v ≡ all_set (place key L) 4 bs → v ≡ all_four key bs
-bits_say key bs L v e n h =
-    let t : eqb (used bs) 0 ≡ false = ne_eqb (used bs) 0 (λ z. n (e ∙ z)) in
-    h ∙ ap (λ m. all_set (place key m) 4 bs) e ∙ sym (ap (λ c. c || (all_set (place key (used bs)) 4 bs)) t)
-
 same_used : (xs ys : List ℕ) → length xs ≡ length ys → used xs ≡ used ys
 unfolding used
 same_used xs ys e = ap (λ n. min n 65536) e
@@ -92,6 +87,48 @@ place_below key bs n s =
 used_le : (bs : List ℕ) → used bs ≤ length bs
 unfolding used
 used_le bs = omega arith
+
+-- bits among the first bytes
+all_taken : (f : ℕ → ℕ) (L : ℕ) (bs : List ℕ) → ((s : ℕ) → f s / 8 < L) → (n : ℕ) → all_set f n (take L bs) ≡ all_set f n bs
+all_taken f L bs below zero = refl
+all_taken f L bs below (suc n) =
+    ap (λ m. m && is_set (take L bs) (f n)) (all_taken f L bs below n)
+    ∙ ap (λ v. all_set f n bs && eqb (v / 2 ^ (f n % 8) % 2) 1) (get_or-take L bs (f n / 8) 0 (below n))
+
+with_taken : (f : ℕ → ℕ) (L : ℕ) (bs : List ℕ) → L ≤ length bs → ((s : ℕ) → f s / 8 < L) → (n : ℕ) → with_bits f n (take L bs) ++ drop L bs ≡ with_bits f n bs
+with_taken f L bs le below zero = take-append-drop L bs
+with_taken f L bs le below (suc n) =
+    let front = with_bits f n (take L bs) in
+    let lt : f n / 8 < length front = rw (same_length f n (take L bs), length-take-le L bs le) (below n) in
+    ap (λ v. set front (f n / 8) (bit_or v (2 ^ (f n % 8))) ++ drop L bs) (sym (get_or_append_left front (drop L bs) 0 (f n / 8) lt))
+    ∙ sym (set-append_left front (drop L bs) (f n / 8) _ lt)
+    ∙ ap (λ ys. with_bit ys (f n)) (with_taken f L bs le below n)
+
+-- a key's four bits among the bytes that serve, if there are any
+module _ (key bs : List ℕ) (L : ℕ) (e : L ≡ used bs) (n : false ≡ eqb (length (take L bs)) 0) where
+  used_within : L ≤ length bs
+  used_within = omega (arith, used_le bs, e)
+
+  long : length (take L bs) ≡ L
+  long = length-take-le L bs used_within
+
+  some : used bs ≡ 0 → ⊥
+  some z = eqb-false (length (take L bs)) 0 (sym n) (long ∙ e ∙ z)
+
+  below : (s : ℕ) → place key L s / 8 < L
+  below s = subst (λ (m : ℕ). place key m s / 8 < m) (sym e) (place_below key bs some s)
+
+  pub bits_say : (v : Bool) → v ≡ all_set (place key (length (take L bs))) 4 (take L bs) → v ≡ all_four key bs
+  bits_say v h =
+      h ∙ ap (λ m. all_set (place key m) 4 (take L bs)) long ∙ all_taken (place key L) L bs below 4 ∙ ap (λ m. all_set (place key m) 4 bs) e
+      ∙ sym (ap (λ c. c || (all_set (place key (used bs)) 4 bs)) (ne_eqb (used bs) 0 some))
+
+  pub bits_set : (ws : List ℕ) → ws ≡ with_bits (place key (length (take L bs))) 4 (take L bs) → ws ++ drop L bs ≡ with_four key bs
+  bits_set ws h =
+      ap (λ ys. ys ++ drop L bs) (h ∙ ap (λ m. with_bits (place key m) 4 (take L bs)) long)
+      ∙ with_taken (place key L) L bs used_within below 4
+      ∙ ap (λ m. with_bits (place key m) 4 bs) e
+      ∙ sym (ap (λ c. cond c bs (with_bits (place key (used bs)) 4 bs)) (ne_eqb (used bs) 0 some))
 
 mark_length_by : (t : Bool) (f : ℕ → ℕ) (bs : List ℕ) → length (cond t bs (with_bits f 4 bs)) ≡ length bs
 mark_length_by true f bs = refl

@@ -29,21 +29,21 @@ fn bit_place<K: Key>(key: K, long: usize, seed: u8) -> usize
     (home(key, seed) % (8 * long as u64)) as usize
 }
 
-// Whether the key's bit under this seed is set, over so many of the bytes.
-fn has_bit<K: Key>(bytes: &[u8], key: K, long: usize, seed: u8) -> bool
-    requires { (0 < long) × (long ≤ 65536) × (long ≤ length bytes.now) }
-    ensures { result ≡ is_set bytes.now (place (K.Key.bytes key) long seed) }
+// Whether the key's bit under this seed is set among these bytes.
+fn has_bit<K: Key>(bytes: &[u8], key: K, seed: u8) -> bool
+    requires { (0 < length bytes.now) × (length bytes.now ≤ 65536) }
+    ensures { result ≡ is_set bytes.now (place (K.Key.bytes key) (length bytes.now) seed) }
 {
-    let place = bit_place(key, long, seed);
+    let place = bit_place(key, bytes.len(), seed);
     (bytes[place / 8] >> (place % 8)) % 2 == 1
 }
 
-// Sets the key's bit under this seed, over so many of the bytes.
-fn set_bit<K: Key>(bytes: &mut [u8], key: K, long: usize, seed: u8)
-    requires { (0 < long) × (long ≤ 65536) × (long ≤ length bytes.old) }
-    ensures { bytes.new ≡ with_bit bytes.old (place (K.Key.bytes key) long seed) }
+// Sets the key's bit under this seed among these bytes.
+fn set_bit<K: Key>(bytes: &mut [u8], key: K, seed: u8)
+    requires { (0 < length bytes.old) × (length bytes.old ≤ 65536) }
+    ensures { bytes.new ≡ with_bit bytes.old (place (K.Key.bytes key) (length bytes.old) seed) }
 {
-    let place = bit_place(key, long, seed);
+    let place = bit_place(key, bytes.len(), seed);
     bytes[place / 8] |= 1 << (place % 8);
 }
 
@@ -51,8 +51,8 @@ fn set_bit<K: Key>(bytes: &mut [u8], key: K, long: usize, seed: u8)
 pub(crate) fn has_bits<K: Key>(bytes: &[u8], key: K) -> bool
     ensures { result ≡ all_four (K.Key.bytes key) bytes.now }
 {
-    let long = used_bytes(bytes);
-    long == 0 || (0..BITS).all(|seed| has_bit(bytes, key, long, seed))
+    let served = &bytes[..used_bytes(bytes)];
+    served.is_empty() || (0..BITS).all(|seed| has_bit(served, key, seed))
 }
 
 // Sets the key's four bits; over no bytes, nothing. It stays a loop: of what a closure in for_each changes nothing is known.
@@ -60,9 +60,10 @@ pub(crate) fn set_bits<K: Key>(bytes: &mut [u8], key: K)
     ensures { bytes.new ≡ with_four (K.Key.bytes key) bytes.old }
 {
     let long = used_bytes(bytes);
-    if long > 0 {
+    let served = &mut bytes[..long];
+    if !served.is_empty() {
         for seed in 0..BITS {
-            set_bit(bytes, key, long, seed);
+            set_bit(served, key, seed);
         }
     }
 }

@@ -13,7 +13,7 @@ use container_format::{HEADER, body_at, container_size, entry_size};
 use keys::{Fingerprint, Key};
 use records::Record;
 
-// Copies `from` over `to`, which is as long.
+// Copies `from` over `to`, which is as long. A part of the device's bytes from their middle is given to it for writing.
 pub(crate) fn copy(to: &mut [u8], from: &[u8])
     requires { length from.now ≡ length to.old }
     ensures { to.new ≡ from.now }

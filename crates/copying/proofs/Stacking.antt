@@ -1,6 +1,6 @@
 -- How a copy grows, record by record and container by container.
 use Rattle.std.proofs.Common.{◌≡◌, ℕ, zero, suc, ◌+◌, ◌<◌, cond, List, [], ◌∷◌, ◌++◌, length, get_or, take, set, is_ok, Ok, Err, sym, refl, ap, ◌∙◌, ⊎_elim, add-one, arith}
-use Rattle.std.proofs.lemmas.List.{append-nil, append_assoc, set-get_or, set-set, get_or-set_same, take_more, length-set}
+use Rattle.std.proofs.lemmas.List.{append_assoc, set-set, get_or-set_same, take_more, length-set}
 use Rattle.std.proofs.lemmas.Bool.{le-ltb, cases_lt}
 use Rattle.records.specs.Records.{Rec, Contents, no_record}
 use Rattle.records.specs.Refusals.{untold}
@@ -8,10 +8,6 @@ use Rattle.records.specs.declared.refusal.Cause.TheVariants.{NoSuchPlace, Shape,
 use Rattle.devices.specs.Changes.{storable, takes, append_answer, appended, append_after}
 use Rattle.devices.specs.Questions.{records_of}
 use Rattle.copying.specs.Copies.{with_more, stacked}
-
--- nothing yet
-pub more_none : (ds : Contents) (c : ℕ) (rs : List Rec) → with_more ds c (take 0 rs) ≡ ds
-more_none ds c rs = ap (set ds c) (append-nil (records_of ds c)) ∙ set-get_or ds c []
 
 -- one record more
 pub more_one : (ds : Contents) (c i : ℕ) (rs : List Rec) → c < length ds → i < length rs → appended (with_more ds c (take i rs)) c (get_or rs i no_record) ≡ with_more ds c (take (i + 1) rs)

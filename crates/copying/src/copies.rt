@@ -7,7 +7,7 @@ ghost use Rattle.devices.specs.Changes.{append_answer, append_after};
 ghost use Rattle.copying.specs.Copies.{MovedOne, MovedAll};
 
 use devices::Device;
-use records::{Place, Refusal};
+use records::{Place, Record, Refusal};
 
 // Appends a record of one device to the same container of another.
 fn copy_record<X: Device, Y: Device<Kind = X::Kind>>(
@@ -23,7 +23,15 @@ fn copy_record<X: Device, Y: Device<Kind = X::Kind>>(
     let fingerprint = from.fingerprint(place)?;
     let mut buffer = [0u8; 7168];
     let len = from.payload(place, &mut buffer)?;
-    to.append(place.container, level, fingerprint, &buffer[0..len])
+    let payload = &buffer[..len];
+    to.append(
+        place.container,
+        Record {
+            level,
+            fingerprint,
+            payload,
+        },
+    )
 }
 
 // Appends the records of a container.
@@ -36,6 +44,7 @@ fn copy_container<X: Device, Y: Device<Kind = X::Kind>>(
     ensures { MovedOne (records_of (X.Device.contents from.now) container) (Y.Device.contents to.old) container result (Y.Device.contents to.new) }
 {
     let records = from.records(container)?;
+    // `try_for_each` stays open: its closure is not told that the record is there.
     for index in 0..records {
         copy_record(from, to, Place { container, index })?;
     }
@@ -49,6 +58,7 @@ fn copy_containers<X: Device, Y: Device<Kind = X::Kind>>(
 ) -> Result<(), Refusal>
     ensures { MovedAll (X.Device.contents from.now) (Y.Device.contents to.old) result (Y.Device.contents to.new) }
 {
+    // `try_for_each` stays open: its closure is not told that the container is there.
     for container in 0..from.count() {
         copy_container(from, to, container)?;
     }

@@ -1,3 +1,12 @@
+pub mod Entries
+pub mod Gathered
+pub mod Weighing
+pub mod Keeping
+pub mod Tapes
+pub mod Walks
+pub mod Sweeps
+pub mod Fronts
+pub mod Views
+pub mod Chains
 pub mod Counts
-pub mod Seeks
 pub mod Firsts

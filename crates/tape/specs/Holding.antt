@@ -1,29 +1,23 @@
--- What a tape keeps true, from an empty tape on through appends and erasures.
-use Rattle.std.specs.Prelude.{◌≡◌, ℕ, ◌+◌, ◌<◌, ◌≤◌, List, [], ◌∷◌, ◌++◌, length, take, drop, slice_set, refl}
-use Rattle.std.proofs.Common.{sym, ap, subst, ◌∙◌, arith}
+-- What a tape keeps true is a proposition, and no container is ever over its limits.
+use Rattle.std.specs.Prelude.{◌≡◌, ℕ, ◌<◌, List, [], cond, ◌≢◌}
+use Rattle.std.proofs.Common.{sym, ap, subst, ⊎_elim}
 use mathlib.Core.List.{is_set}
 use Rattle.std.proofs.Math.Logic.{∥∥₁_elim}
 use Rattle.std.proofs.Math.Bridge.{le_prop}
 use Rattle.std.proofs.Math.Nat.{ℕ_set}
-use Rattle.std.specs.List.{AllByRecursion}
-use Rattle.std.proofs.ByRecursion.{All-push, All-set, all_kept_by}
-use Rattle.std.proofs.lemmas.List.{length_push}
+use Rattle.std.specs.List.{AllByRecursion, AllByRecursion-prop}
 use Rattle.keys.specs.Octets.{Bytes}
 use Rattle.records.specs.Limits.{Typed, Fits}
-use Rattle.records.specs.Records.{Rec, payload_bytes}
+use Rattle.records.specs.Records.{Rec}
 use Rattle.devices.specs.Questions.{Held}
-use Rattle.devices.specs.Changes.{appended, erased}
-use Rattle.tape.specs.Log.{Entry, Sound, Logged, laid_before, log_before, entry_size, log_size, log_of, records_in, without, gathered}
-use Rattle.tape.specs.Sizes.{Good, tape_size}
-use Rattle.tape.specs.Entries.{logged, log_append, log_join, size_join, take_log, length-log_of}
-use Rattle.tape.specs.Gathering.{get_or-gathered, all-gathered, gathered_push, gathered-without, typed_records, log_fits}
-
-prop_all : {X : Type 0} (P : X → Type 0) → ((x : X) → IsProp (P x)) → (xs : List X) → IsProp (AllByRecursion P xs)
-prop_all P h [] = λ a b. refl
-prop_all P h (x ∷ xs) = λ a b i. (h x a.0 b.0 i, prop_all P h xs a.1 b.1 i)
+use Rattle.tape.specs.Log.{Entry, Sound, Logged, log_of, gathered}
+use Rattle.tape.specs.Sizes.{Good}
+use Rattle.tape.specs.Gathering.{all-gathered, typed_records}
+use Rattle.std.proofs.lemmas.Bool.{eq-eqb, ne_eqb, cases_eq}
+use Rattle.tape.specs.Meaning.{held_at}
 
 prop_bytes : (xs : List ℕ) → IsProp (Bytes xs)
-prop_bytes xs = prop_all (λ b. b < 256) (λ x. le_prop) xs
+prop_bytes xs = AllByRecursion-prop (λ b. b < 256) (λ x. le_prop) xs
 
 prop_typed : (w : ℕ) (r : Rec) → IsProp (Typed w r)
 prop_typed w r a b i = record {
@@ -35,11 +29,11 @@ prop_typed w r a b i = record {
 prop_sound : (w : ℕ) (e : Entry) → IsProp (Sound w e)
 prop_sound w e a b i = record { typed = prop_typed w e.stored a.typed b.typed i; few = le_prop a.few b.few i }
 
-prop_logged : (w k : ℕ) (bs : List ℕ) → IsProp (Logged w k bs)
+pub prop_logged : (w k : ℕ) (bs : List ℕ) → IsProp (Logged w k bs)
 prop_logged w k bs a b i = record {
   space = le_prop a.space b.space i;
   whole = is_set ℕ_set _ _ a.whole b.whole i;
-  each = prop_all (Sound w) (prop_sound w) _ a.each b.each i;
+  each = AllByRecursion-prop (Sound w) (prop_sound w) _ a.each b.each i;
 }
 
 prop_fits : (rs : List Rec) → IsProp (Fits rs)
@@ -52,106 +46,28 @@ prop_good w n k used bs a b i = record {
   long = ℕ_set _ _ a.long b.long i;
   logged = prop_logged w k bs a.logged b.logged i;
   front = ℕ_set _ _ a.front b.front i;
-  within = prop_all (λ e. e.container < n) (λ e. le_prop) _ a.within b.within i;
-  fits = prop_all Fits prop_fits _ a.fits b.fits i;
+  within = AllByRecursion-prop (λ e. e.container < n) (λ e. le_prop) _ a.within b.within i;
+  fits = AllByRecursion-prop Fits prop_fits _ a.fits b.fits i;
 }
 
 -- what the ghost field holds, as a fact that can be used
 pub good_from : (w n k used : ℕ) (bs : List ℕ) → ∥ Good w n k used bs ∥₁ → Good w n k used bs
 good_from w n k used bs h = ∥∥₁_elim h (prop_good w n k used bs) (λ g. g)
 
--- bytes that begin with a log within the limits are a tape
-pub record Limited (w n : ℕ) (es : List Entry) : Type 0 where
-  pub narrow : w ≤ 20
-  pub few : n ≤ 32
-  pub each : AllByRecursion (Sound w) es
-  pub within : AllByRecursion (λ e. e.container < n) es
-  pub fits : AllByRecursion Fits (gathered n es)
-
-pub good_made : (w n k used : ℕ) (es : List Entry) (rest bs : List ℕ) → Limited w n es → length bs ≡ tape_size w n → length es ≡ k → log_size w es ≡ used → bs ≡ log_before es rest → Good w n k used bs × (log_of w k bs ≡ es)
-good_made w n k used es rest bs m long count size is =
-    let l = logged w k es rest bs count m.each is in
-    let e : log_of w k bs ≡ es = l.0 in (
-      record {
-        narrow = m.narrow;
-        few = m.few;
-        long = long;
-        logged = l.1;
-        front = ap (log_size w) e ∙ size;
-        within = subst (AllByRecursion (λ x. x.container < n)) (sym e) m.within;
-        fits = subst (λ x. AllByRecursion Fits (gathered n x)) (sym e) m.fits;
-      },
-      e,
-    )
-
--- an empty tape
-no_records : (n : ℕ) → AllByRecursion Fits (gathered n [])
-no_records n = all-gathered Fits n [] (λ c h. record { count = omega arith; bytes = omega arith })
-
-pub good_empty : (w n : ℕ) (bs : List ℕ) → w ≤ 20 → n ≤ 32 → length bs ≡ tape_size w n → Good w n 0 0 bs
-good_empty w n bs narrow few long =
-    (good_made w n 0 0 [] bs bs (record { narrow = narrow; few = few; each = tt; within = tt; fits = no_records n }) long refl refl refl).0
-
--- one entry more
-module _ (w n k used : ℕ) (bs : List ℕ) (g : Good w n k used bs) (e : Entry) (here : e.container < n) (sound : Sound w e) where
-  abbrev es : List Entry
-  es = log_of w k bs
-
-  abbrev rs : List Rec
-  rs = records_in e.container es
-
-  payload_push : (xs : List Rec) (r : Rec) → payload_bytes (xs ++ r ∷ []) ≡ payload_bytes xs + length r.payload
-  payload_push [] r = omega arith
-  payload_push (x ∷ xs) r = let t = payload_push xs r in omega arith
-
-  module _ (one : length rs < 63) (all : payload_bytes rs + length e.stored.payload ≤ 7168) where
-    pub limited_more : Limited w n (es ++ e ∷ [])
-    limited_more =
-        let fit : Fits (rs ++ e.stored ∷ []) = record { count = (let l = length_push rs e.stored in omega arith); bytes = (let p = payload_push rs e.stored in omega arith) } in
-        record {
-          narrow = g.narrow;
-          few = g.few;
-          each = All-push (Sound w) es e g.logged.each sound;
-          within = All-push (λ x. x.container < n) es e g.within here;
-          fits = subst (AllByRecursion Fits) (sym (gathered_push n e es)) (All-set Fits (gathered n es) e.container (rs ++ e.stored ∷ []) fit g.fits);
-        }
-
-    -- the tape never lacks space for what a container takes
-    pub space_more : used + entry_size w e ≤ length bs
-    space_more =
-        let f = log_fits w n (es ++ e ∷ []) limited_more.within limited_more.fits in
-        let s = size_join w es (e ∷ []) in
-        let u = g.front in
-        let l = g.long in
-        omega arith
-
-    pub good_more : (k' used' : ℕ) (bs' : List ℕ) → k' ≡ k + 1 → used' ≡ used + entry_size w e → length bs' ≡ length bs → bs' ≡ take used bs ++ laid_before e (drop (entry_size w e) (drop used bs)) →
-        Good w n k' used' bs' × (gathered n (log_of w k' bs') ≡ appended (gathered n es) e.container e.stored)
-    good_more k' used' bs' kk uu ll is =
-        let u = g.front in
-        let more : List ℕ = drop (entry_size w e) (drop used bs) in
-        let front : take used bs ≡ log_before es [] = (λ i. take (sym u i) (sym g.logged.whole i)) ∙ take_log w es (drop (log_size w es) bs) g.logged.each in
-        let b : bs' ≡ log_before (es ++ e ∷ []) more = is ∙ ap (λ x. x ++ laid_before e more) front ∙ sym (log_append es (laid_before e more)) ∙ sym (log_join es (e ∷ []) more) in
-        let n' : length (es ++ e ∷ []) ≡ k' = length_push es e ∙ ap (λ x. x + 1) (length-log_of w k bs) ∙ sym kk in
-        let s : log_size w (es ++ e ∷ []) ≡ used' = size_join w es (e ∷ []) ∙ omega arith in
-        let made = good_made w n k' used' (es ++ e ∷ []) more bs' limited_more (ll ∙ g.long) n' s b in
-        (made.0, ap (gathered n) made.1 ∙ gathered_push n e es ∙ ap (λ x. slice_set (gathered n es) e.container (x ++ e.stored ∷ [])) (sym (get_or-gathered n e.container es here)))
-
--- a container less
-pub good_without : (w n k used c k' used' : ℕ) (bs bs' : List ℕ) → Good w n k used bs → let es = without c (log_of w k bs) in k' ≡ length es → used' ≡ log_size w es → length bs' ≡ length bs → bs' ≡ log_before es (drop used' bs') →
-    Good w n k' used' bs' × (gathered n (log_of w k' bs') ≡ erased (gathered n (log_of w k bs)) c)
-good_without w n k used c k' used' bs bs' g kk uu ll is =
-    let es : List Entry = log_of w k bs in
-    let m : Limited w n (without c es) = record {
-      narrow = g.narrow;
-      few = g.few;
-      each = all_kept_by _ (Sound w) es g.logged.each;
-      within = all_kept_by _ (λ x. x.container < n) es g.within;
-      fits = subst (AllByRecursion Fits) (sym (gathered-without n c es)) (All-set Fits (gathered n es) c [] (record { count = omega arith; bytes = omega arith }) g.fits);
-    } in
-    let made = good_made w n k' used' (without c es) (drop used' bs') bs' m (ll ∙ g.long) (sym kk) (sym uu) is in
-    (made.0, ap (gathered n) made.1 ∙ gathered-without n c es)
-
 -- the law of a device
 pub good_held : (w n k used : ℕ) (bs : List ℕ) → Good w n k used bs → Held w (gathered n (log_of w k bs))
 good_held w n k used bs g = record { fits = g.fits; typed = all-gathered (AllByRecursion (Typed w)) n (log_of w k bs) (λ c h. typed_records w c (log_of w k bs) g.logged.each) }
+
+pub held_same : (w v n k : ℕ) (bs : List ℕ) → v ≡ w → held_at w v n k bs ≡ gathered n (log_of v k bs)
+held_same w v n k bs e = ap (λ b. cond b (gathered n (log_of v k bs)) []) (eq-eqb v w e)
+
+pub held_none : (w v n k : ℕ) (bs : List ℕ) → (v ≢ w) → held_at w v n k bs ≡ []
+held_none w v n k bs e = ap (λ b. cond b (gathered n (log_of v k bs)) []) (ne_eqb v w e)
+
+-- no container is over its limits
+pub held-held : (w v n k used : ℕ) (bs : List ℕ) → ∥ Good v n k used bs ∥₁ → Held w (held_at w v n k bs)
+held-held w v n k used bs h =
+    ⊎_elim
+    (λ e. subst (λ x. Held w x) (sym (held_same w v n k bs e)) (subst (λ x. Held x (gathered n (log_of v k bs))) e (good_held v n k used bs (good_from v n k used bs h))))
+    (λ ne. subst (λ x. Held w x) (sym (held_none w v n k bs ne)) (record { fits = tt; typed = tt }))
+    (cases_eq v w)

@@ -1,9 +1,6 @@
 pub mod Log
+pub mod Reading
 pub mod Sizes
 pub mod Meaning
-pub mod Seen
 pub mod Gathering
 pub mod Holding
-pub mod Entries
-pub mod Sweeps
-pub mod Walks

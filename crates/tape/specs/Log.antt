@@ -1,5 +1,5 @@
 -- A log: entries one behind the other in bytes, the log that bytes read as, and which container has which records.
-use Rattle.std.specs.Prelude.{◌≡◌, ℕ, zero, suc, ◌+◌, ◌<◌, ◌≤◌, cond, not, List, [], ◌∷◌, ◌++◌, map, length, take, drop, filter, ◌==◌, slice_index, slice_index_or}
+use Rattle.std.specs.Prelude.{◌≡◌, ℕ, zero, suc, ◌+◌, ◌≤◌, cond, not, List, [], ◌∷◌, ◌++◌, map, length, take, drop, filter, ◌==◌, slice_index}
 use Rattle.std.specs.List.{range_with_len, AllByRecursion}
 use Rattle.keys.specs.Octets.{little, number}
 use Rattle.records.specs.Limits.{Typed}
@@ -61,12 +61,6 @@ pub record Logged (w k : ℕ) (bs : List ℕ) : Type 0 where
 abbrev pub records_in : ℕ → List Entry → List Rec
 records_in c [] = []
 records_in c (e ∷ es) = cond (e.container == c) (e.stored ∷ records_in c es) (records_in c es)
-
--- at `at` in some bytes stands the record i of the records rs
-pub record Found (w : ℕ) (bs : List ℕ) (rs : List Rec) (i at : ℕ) : Type 0 where
-  pub here : i < length rs
-  pub space : at + (w + 4 + length_at (drop at bs)) ≤ length bs
-  pub is : (entry_of w (drop at bs)).stored ≡ slice_index_or rs i no_record
 
 -- the log with no entry of a container
 abbrev pub without : ℕ → List Entry → List Entry

@@ -1,13 +1,15 @@
 // The tape as a device.
+ghost use Rattle.std.specs.Prelude.{◌≡◌};
+ghost use Rattle.records.specs.Records.{rec_of};
+ghost use Rattle.devices.specs.Changes.{append_answer, append_after};
 ghost use Rattle.tape.specs.Meaning.{held_by};
-ghost use Rattle.tape.specs.Seen.{held-held};
+ghost use Rattle.tape.specs.Holding.{held-held};
 
-use crate::raw::{fingerprint_at, head_at, put_front};
+use crate::sweep::sweep;
 use crate::tape::Tape;
-use crate::walk::{first_in, sweep};
-use devices::Device;
+use devices::{Device, is_storable, joins};
 use keys::Fingerprint;
-use records::{Cause, Place, Refusal};
+use records::{Cause, Place, Record, Refusal};
 
 impl<F: Fingerprint> Device for Tape<F> {
     type Kind = F;
@@ -21,75 +23,60 @@ impl<F: Fingerprint> Device for Tape<F> {
     }
 
     fn records(&self, container: usize) -> Result<usize, Refusal> {
-        let tally = self.tally(container)?;
-        Ok(tally.records)
+        self.check(container)?;
+        Ok(self.tally(container).records)
     }
 
     fn payload_bytes(&self, container: usize) -> Result<usize, Refusal> {
-        let tally = self.tally(container)?;
-        Ok(tally.payload)
+        self.check(container)?;
+        Ok(self.tally(container).payload)
     }
 
     fn level(&self, place: Place) -> Result<u8, Refusal> {
-        let at = self.find(place)?;
-        Ok(head_at(&self.bytes, F::WIDE, at).level)
+        Ok(self.find(place)?.level)
     }
 
     fn fingerprint(&self, place: Place) -> Result<F, Refusal> {
-        let at = self.find(place)?;
-        Ok(fingerprint_at(&self.bytes, at + 4))
+        Ok(self.find(place)?.fingerprint)
     }
 
     fn payload_len(&self, place: Place) -> Result<usize, Refusal> {
-        let at = self.find(place)?;
-        Ok(head_at(&self.bytes, F::WIDE, at).len)
+        Ok(self.find(place)?.payload.len())
     }
 
     fn payload(&self, place: Place, to: &mut [u8]) -> Result<usize, Refusal> {
-        let at = self.find(place)?;
-        let width = F::WIDE;
-        let head = head_at(&self.bytes, width, at);
-        if head.len > to.len() {
+        let payload = self.find(place)?.payload;
+        let len = payload.len();
+        if len > to.len() {
             return Err(Refusal::from(Cause::TooShort));
         }
-        let from = at + 4 + width;
-        let next = head.next;
-        put_front(to, &self.bytes[from..next]);
-        Ok(head.len)
+        to[..len].copy_from_slice(payload);
+        Ok(len)
     }
 
     fn first_place(&self, fingerprint: F) -> Option<Place> {
-        for container in 0..self.count() {
-            if let Some(place) = first_in(&self.bytes, self.entries, container, fingerprint) {
-                return Some(place);
-            }
-        }
-        None
+        (0..self.count()).find_map(|container| self.first_in(container, fingerprint))
     }
 
-    fn append(
-        &mut self,
-        container: usize,
-        level: u8,
-        fingerprint: F,
-        payload: &[u8],
-    ) -> Result<(), Refusal> {
-        let tally = self.tally(container)?;
-        let len = payload.len();
-        if level > 6 || len < 1 || len > 1280 {
+    fn append(&mut self, container: usize, added: Record<'_, F>) -> Result<(), Refusal>
+        ensures answer { result ≡ append_answer (held_by F.Key.WIDE self.old) container (rec_of F.Key.bytes added.entry) }
+        ensures after { held_by F.Key.WIDE self.new ≡ append_after (held_by F.Key.WIDE self.old) container (rec_of F.Key.bytes added.entry) }
+    {
+        self.check(container)?;
+        let len = added.payload.len();
+        if !is_storable(added.level, len) {
             return Err(Refusal::from(Cause::Shape));
         }
-        if tally.records >= 63 || tally.payload > 7168 - len {
+        let tally = self.tally(container);
+        if !joins(tally.records, tally.payload, len) {
             return Err(Refusal::from(Cause::ContainerFull));
         }
-        self.push(container, level, fingerprint, payload);
+        self.push(container, added);
         Ok(())
     }
 
     fn erase(&mut self, container: usize) -> Result<(), Refusal> {
-        if container >= self.count() {
-            return Err(Refusal::from(Cause::NoSuchPlace));
-        }
+        self.check(container)?;
         let left = sweep(&mut self.bytes, self.width, self.entries, container);
         self.entries = left.entries;
         self.used = left.used;

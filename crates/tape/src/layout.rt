@@ -14,7 +14,7 @@ use std::marker::PhantomData;
 pub fn tape_size<F: Fingerprint>(n: usize) -> Option<usize>
     ensures { result ≡ (if countable n then Some (tape_size F.Key.WIDE n) else None) }
 {
-    if n < 2 || n > 32 {
+    if !(2..=32).contains(&n) {
         return None;
     }
     Some(16 + n * (63 * (F::WIDE + 4) + 7168))
@@ -26,10 +26,7 @@ impl<F: Fingerprint> Tape<F> {
         ensures answer { is_ok result ≡ (countable n && vec_len bytes == tape_size F.Key.WIDE n) }
         ensures empty { MatchResult result (λ t. held_by F.Key.WIDE t ≡ replicate n []) (λ refused. refused ≡ (untold Size, bytes)) }
     {
-        let Some(size) = tape_size::<F>(n) else {
-            return Err((Refusal::from(Cause::Size), bytes));
-        };
-        if bytes.len() != size {
+        if tape_size::<F>(n) != Some(bytes.len()) {
             return Err((Refusal::from(Cause::Size), bytes));
         }
         Ok(Tape {

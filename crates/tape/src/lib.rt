@@ -3,10 +3,13 @@
 
 mod access;
 mod device;
+mod entry;
 mod layout;
+mod log;
 mod raw;
+mod reading;
+mod sweep;
 mod tape;
-mod walk;
 
 pub use layout::tape_size;
 pub use tape::Tape;

@@ -1,59 +1,19 @@
-// Single entries in bytes.
+// Writing an entry in bytes.
 ghost use Rattle.std.specs.Prelude.{◌≡◌, ◌+◌, ◌^◌, ◌<◌, ◌≤◌, ◌∷◌, ◌++◌, length, take, drop, slice_index};
-ghost use Rattle.keys.specs.Octets.{little};
+ghost use Rattle.keys.specs.Octets.{Bytes, little};
+ghost use Rattle.records.specs.Records.{rec_of};
 ghost use Rattle.tape.specs.Log.{length_at, laid_before};
 
 use keys::Fingerprint;
-
-// What an entry tells before its fingerprint, and where the next one begins.
-#[derive(Clone, Copy)]
-pub(crate) struct Head {
-    pub container: usize,
-    pub level: u8,
-    pub len: usize,
-    pub next: usize,
-}
-
-// The head of the entry at `at`.
-pub(crate) fn head_at(bytes: &[u8], width: usize, at: usize) -> Head
-    requires { at + (width + 4 + length_at (drop at bytes.now)) ≤ length bytes.now }
-    ensures container { result.container ≡ slice_index (drop at bytes.now) 0 }
-    ensures level { result.level ≡ slice_index (drop at bytes.now) 1 }
-    ensures len { result.len ≡ length_at (drop at bytes.now) }
-    ensures next { result.next ≡ at + (width + 4 + length_at (drop at bytes.now)) }
-{
-    match &bytes[at..at + 4] {
-        [container, level, low, high] => {
-            let len = *low as usize + 256 * *high as usize;
-            Head {
-                container: *container as usize,
-                level: *level,
-                len,
-                next: at + (width + 4 + len),
-            }
-        }
-        _ => unreachable(),
-    }
-}
-
-// The fingerprint at `at`.
-pub(crate) fn fingerprint_at<F: Fingerprint>(bytes: &[u8], at: usize) -> F
-    requires { at + F.Key.WIDE ≤ length bytes.now }
-    ensures { result ≡ F.Key.key (take F.Key.WIDE (drop at bytes.now)) }
-{
-    match F::read(&bytes[at..]) {
-        Some(fingerprint) => fingerprint,
-        None => unreachable(),
-    }
-}
+use records::Record;
 
 // Writes bytes over the front of others.
 pub(crate) fn put_front(to: &mut [u8], from: &[u8])
     requires { length from.now ≤ length to.old }
-    ensures { to.new ≡ from.now ++ drop (length from.now) to.old }
+    ensures after { to.new ≡ from.now ++ drop (length from.now) to.old }
+    ensures octets { Bytes from.now }
 {
-    let end = from.len();
-    (&mut to[0..end]).copy_from_slice(from);
+    to[..from.len()].copy_from_slice(from);
 }
 
 // Writes an entry's head over the front of some bytes.
@@ -62,26 +22,20 @@ fn put_head(to: &mut [u8], container: u8, level: u8, len: usize)
     requires short { len < 2 ^ 16 }
     ensures { to.new ≡ container ∷ level ∷ (little 2 len ++ drop 4 to.old) }
 {
-    let low_high = (len as u16).to_le_bytes();
-    put_front(to, &[container, level, low_high[0], low_high[1]]);
+    let [low, high] = (len as u16).to_le_bytes();
+    put_front(to, &[container, level, low, high]);
 }
 
 // Writes an entry over the front of some bytes.
-fn put_entry<F: Fingerprint>(
-    to: &mut [u8],
-    container: u8,
-    level: u8,
-    fingerprint: F,
-    payload: &[u8],
-)
-    requires space { F.Key.WIDE + 4 + length payload.now ≤ length to.old }
-    requires short { length payload.now ≤ 1280 }
-    ensures { to.new ≡ laid_before (record { container = container; stored = record { level = level; fingerprint = F.Key.bytes fingerprint; payload = payload.now } }) (drop (F.Key.WIDE + 4 + length payload.now) to.old) }
+fn put_entry<F: Fingerprint>(to: &mut [u8], container: u8, added: Record<'_, F>)
+    requires space { F.Key.WIDE + 4 + length added.payload.now ≤ length to.old }
+    requires short { length added.payload.now ≤ 1280 }
+    ensures after { to.new ≡ laid_before (record { container = container; stored = rec_of F.Key.bytes added.entry }) (drop (F.Key.WIDE + 4 + length added.entry.payload.now) to.old) }
+    ensures octets { Bytes added.entry.payload.now }
 {
-    let width = F::WIDE;
-    put_head(to, container, level, payload.len());
-    let _ = fingerprint.write(&mut to[4..]);
-    put_front(&mut to[width + 4..], payload);
+    put_head(to, container, added.level, added.payload.len());
+    let _ = added.fingerprint.write(&mut to[4..]);
+    put_front(&mut to[F::WIDE + 4..], added.payload);
 }
 
 // Writes an entry at `at`.
@@ -89,13 +43,12 @@ pub(crate) fn add_entry<F: Fingerprint>(
     bytes: &mut [u8],
     at: usize,
     container: u8,
-    level: u8,
-    fingerprint: F,
-    payload: &[u8],
+    added: Record<'_, F>,
 )
-    requires space { at + (F.Key.WIDE + 4 + length payload.now) ≤ length bytes.old }
-    requires short { length payload.now ≤ 1280 }
-    ensures { bytes.new ≡ take at bytes.old ++ laid_before (record { container = container; stored = record { level = level; fingerprint = F.Key.bytes fingerprint; payload = payload.now } }) (drop (F.Key.WIDE + 4 + length payload.now) (drop at bytes.old)) }
+    requires space { at + (F.Key.WIDE + 4 + length added.payload.now) ≤ length bytes.old }
+    requires short { length added.payload.now ≤ 1280 }
+    ensures after { bytes.new ≡ take at bytes.old ++ laid_before (record { container = container; stored = rec_of F.Key.bytes added.entry }) (drop (F.Key.WIDE + 4 + length added.entry.payload.now) (drop at bytes.old)) }
+    ensures octets { Bytes added.entry.payload.now }
 {
-    put_entry(&mut bytes[at..], container, level, fingerprint, payload);
+    put_entry(&mut bytes[at..], container, added);
 }

@@ -8,6 +8,7 @@ use std::marker::PhantomData;
 #[derive(Drop)]
 pub struct Tape<F: Fingerprint> {
     pub(crate) bytes: Vec<u8>,
+    // F's width, kept as a value: a ghost field that cites it is not covered in a struct that owns a Vec.
     pub(crate) width: usize,
     pub(crate) containers: usize,
     pub(crate) entries: usize,

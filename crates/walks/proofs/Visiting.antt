@@ -1,5 +1,5 @@
 -- From what a device tells of a node to a step of an examination.
-use Rattle.std.proofs.Common.{◌≡◌, ℕ, suc, ◌+◌, ◌-◌, ◌/◌, ◌<◌, ◌≤◌, Bool, true, false, cond, eqb, leb, List, [], ◌∷◌, ◌++◌, map, length, take, drop, is_some, IsErrAnd, Some, None, Ok, Err, Option, Result, MatchOption, sym, refl, ap, ap₂, ◌∙◌, subst, inl, inr, ⊎_elim, add-one, arith, length-append, append_assoc}
+use Rattle.std.proofs.Common.{◌≡◌, ℕ, suc, ◌+◌, ◌-◌, ◌/◌, ◌<◌, ◌≤◌, Bool, true, false, cond, eqb, leb, List, [], ◌∷◌, ◌++◌, map, length, take, drop, is_some, IsErrAnd, Some, None, Ok, Err, Option, Result, MatchResult, sym, refl, ap, ap₂, ◌∙◌, subst, inl, inr, ⊎_elim, add-one, arith, length-append, append_assoc}
 use Rattle.std.proofs.Math.Nat.{add-div_left, div-eq_of_lt}
 use Rattle.std.proofs.Math.Seq.{drop-append_seam}
 use Rattle.std.specs.Bool.{then_some}
@@ -37,16 +37,19 @@ place_at cs p n = cond (stands (record_of cs p) n) (first_place cs p) None
 
 module _ (cs : Contents) (p : List ℕ) (n : ℕ) where
   -- a test is true of level n alone, and of no refusal
-  abbrev LevelIs : Bool → Result ℕ Refusal → Type 0
+  abbrev pub LevelIs : Bool → Result ℕ Refusal → Type 0
   LevelIs b (Ok l) = b ≡ eqb l n
   LevelIs b (Err e) = b ≡ false
 
-  -- the place that is left of the first where its record is told to have the level
-  pub place_told : (o : Option Place) → o ≡ first_place cs p → (a : Option Place) (Gives : Place → Bool → Type 0) → MatchOption o (a ≡ None) (λ x. (b : Bool) × Gives x b × (a ≡ then_some b x)) → ((x : Place) (b : Bool) → Gives x b → LevelIs b (of_record (λ r. r.level) cs x)) → a ≡ place_at cs p n
-  place_told None e a Gives h f = h ∙ ap (λ o. cond (stands o n) (first_place cs p) None) (record_there cs p None e)
-  place_told (Some x) e a Gives (b, gives, kept) f =
-      let stood : b ≡ stands (record_of cs p) n = level (standing cs x) (subst (LevelIs b) (answered cs x (λ r. r.level)) (f x b gives)) ∙ ap (λ o. stands o n) (record_there cs p (Some x) e) in
-      kept ∙ keep b ∙ ap₂ (λ s o. cond s o None) stood e
+  pub level_is : (o : Result ℕ Refusal) (b : Bool) (Gives : ℕ → Type 0) → MatchResult o Gives (λ e. b ≡ false) → ((l : ℕ) → Gives l → b ≡ eqb l n) → LevelIs b o
+  level_is (Ok l) b Gives h f = f l h
+  level_is (Err e) b Gives h f = h
+
+  -- the first place is left where its record is told to have the level
+  pub place_told : (x : Place) → Some x ≡ first_place cs p → (b : Bool) (o : Result ℕ Refusal) → o ≡ of_record (λ r. r.level) cs x → LevelIs b o → then_some b x ≡ place_at cs p n
+  place_told x e b o told is =
+      let stood : b ≡ stands (record_of cs p) n = level (standing cs x) (subst (LevelIs b) (told ∙ answered cs x (λ r. r.level)) is) ∙ ap (λ o. stands o n) (record_there cs p (Some x) e) in
+      keep b ∙ ap₂ (λ s o. cond s o None) stood e
     where
       level : (o : Option Rec) → LevelIs b (answer (λ r. r.level) o) → b ≡ stands o n
       level None h = h
@@ -55,6 +58,9 @@ module _ (cs : Contents) (p : List ℕ) (n : ℕ) where
       keep : (b : Bool) → then_some b x ≡ cond b (Some x) None
       keep true = refl
       keep false = refl
+
+  pub place_none : None ≡ first_place cs p → None ≡ place_at cs p n
+  place_none e = ap (λ o. cond (stands o n) (first_place cs p) None) (record_there cs p None e)
 
   -- what such a place tells, and what none does
   pub found_there : (x : Place) → Some x ≡ place_at cs p n → (Some x ≡ first_place cs p) × ((r : Rec) × (record_of cs p ≡ Some r) × (r.level ≡ n))

@@ -14,7 +14,7 @@ use keys::Key;
 use records::Place;
 use slots::{Probe, Slot, insert, lookup};
 
-// Puts a node's fingerprint into the table, where it is not there yet.
+// Puts a node's fingerprint into the table, unless it is there already.
 pub(crate) fn enter<K: Key>(table: &mut [Slot<K>], node: K) -> Result<(), Flaw>
     ensures { Enters K.Key.bytes node (keys_of table.old) (keys_of table.new) result }
 {
@@ -28,9 +28,11 @@ pub(crate) fn enter<K: Key>(table: &mut [Slot<K>], node: K) -> Result<(), Flaw>
 fn place_at_level<D: Device>(device: &D, node: D::Kind, level: u8) -> Option<Place>
     ensures { result ≡ (if stands (record_of (D.contents device.now) (D.Kind.Key.bytes node)) level then first_place (D.contents device.now) (D.Kind.Key.bytes node) else None) }
 {
-    device.first_place(node).filter(|place| device
-        .level(*place)
-        .is_ok_and(|stored| stored == level))
+    let place = device.first_place(node)?;
+    device
+        .level(place)
+        .is_ok_and(|stored| stored == level)
+        .then_some(place)
 }
 
 // The nodes of a level, which is not 0, on a device.
@@ -109,9 +111,10 @@ impl<'a, D: Device> Nodes<'a, D> {
         ensures { (done : List (List ℕ)) → Moves D.Kind.Key.bytes D.Kind.Key.WIDE (D.contents self.now.device.now) self.now.level done (keys_of table.old) self.now.level (map (λ x. x.fingerprint) (records_of (D.contents self.now.device.now) container) ++ done) (keys_of table.new) result }
     {
         for index in 0..self.device.records(container).unwrap_or(0) {
-            if let Ok(node) = self.device.fingerprint(Place { container, index }) {
-                self.visit_node(node, table)?;
-            }
+            let Ok(node) = self.device.fingerprint(Place { container, index }) else {
+                continue;
+            };
+            self.visit_node(node, table)?;
         }
         Ok(())
     }

@@ -1,7 +1,6 @@
 use Rattle.std.proofs.Common.{sym, ap, ◌∙◌, arith}
-use Rattle.std.proofs.lemmas.List.{take_all}
 use Rattle.devices.specs.Questions.{records_of}
-use Rattle.copying.specs.Copies.{with_more, stacked}
+use Rattle.copying.specs.Copies.{with_more}
 use Rattle.copying.proofs.Stacking.{stacked_none, stacked_one}
 use Rattle.copying.proofs.copies.copy_containers.Goals as goal
 
@@ -14,8 +13,3 @@ loop-container-preserved g c =
     let ds = g.Y.Device.contents c.args.to.now in
     let k = c.loop-container.container in
     c.in_ok-copy_container.ensures ∙ ap (λ xs. with_more xs k (records_of cs k)) c.loop-container.invariant ∙ stacked_one ds cs k (let n = c.count-container-end.ensures in let t = c.loop-container-test.true in omega arith)
-
-pub returns : goal.returns
-returns g c =
-    let cs = g.X.Device.contents c.args.from.now in
-    c.loop-container.invariant ∙ ap (stacked (g.Y.Device.contents c.args.to.now)) (take_all c.loop-container.container cs (let n = c.count-container-end.ensures in let t = c.loop-container-test.false in omega arith))

@@ -1,4 +1,4 @@
-use Rattle.std.proofs.Common.{◌≡◌, ℕ, ◌-◌, cond, ◌++◌, length, take, drop, replicate, is_ok, refl, ap, ◌∙◌, arith}
+use Rattle.std.proofs.Common.{◌≡◌, ℕ, cond, ◌++◌, length, take, drop, replicate, is_ok, refl, ap, ◌∙◌, arith}
 use Rattle.std.proofs.lemmas.List.{take_at}
 use Rattle.records.specs.Records.{Rec}
 use Rattle.devices.proofs.Asking.{same_ok, payload_told, name_told}
@@ -29,9 +29,8 @@ returns g c =
     let filled : c.payload.new.to ≡ r.payload ++ drop (length r.payload) (replicate 7168 0) =
     c.payload.ensures.buffer ∙ ap (λ a. cond (is_ok a) (r.payload ++ drop (length r.payload) (replicate 7168 0)) (replicate 7168 0)) told
     in
-    let z : c.in_ok-len.len - 0 ≡ length r.payload = (let e = len in omega arith) in
-    let payload : take (c.in_ok-len.len - 0) c.payload.new.to ≡ r.payload = (λ i. take (z i) (filled i)) ∙ take_at r.payload _ _ refl in
-    let same : ◌≡◌ {A = Rec} (record { level = c.in_ok-level.level; fingerprint = g.X.Kind.Key.bytes c.in_ok-fingerprint.fingerprint; payload = take (c.in_ok-len.len - 0) c.payload.new.to }) r =
+    let payload : take c.in_ok-len.len c.payload.new.to ≡ r.payload = (λ i. take (len i) (filled i)) ∙ take_at r.payload _ _ refl in
+    let same : ◌≡◌ {A = Rec} (record { level = c.in_ok-level.level; fingerprint = g.X.Kind.Key.bytes c.in_ok-fingerprint.fingerprint; payload = take c.in_ok-len.len c.payload.new.to }) r =
     λ i. record { level = level i; fingerprint = name i; payload = payload i }
     in
     record { answer = c.append.ensures.answer ∙ ap (append_answer ds p.container) same; after = c.append.ensures.after ∙ ap (append_after ds p.container) same }

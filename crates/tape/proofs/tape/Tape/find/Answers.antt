@@ -1,36 +1,19 @@
-use Rattle.std.proofs.Common.{length, vec_items, refl, ap, arith}
-use Rattle.tape.specs.Log.{log_of, records_in}
-use Rattle.tape.specs.Meaning.{held_by}
-use Rattle.tape.specs.Seen.{Here, logged_seen, held_here, held_past, found_seen}
-use Rattle.tape.proofs.tape.Tape.find.Given as given
+use Rattle.std.proofs.Common.{◌≡◌, ◌==◌, ap, rules, tests}
+use Rattle.std.specs.Option.{option_map}
+use Rattle.std.specs.List.{slice_get}
+use Rattle.std.proofs.lemmas.Iterator.Consumers.{YieldsList-from_first, YieldsList-from_filter, nth_from_yields_List}
+use Rattle.tape.specs.Log.{log_of}
+use Rattle.tape.specs.Reading.{entry_by}
+use Rattle.tape.proofs.Chains.{entries_in, found_by}
 use Rattle.tape.proofs.tape.Tape.find.Goals as goal
-use Rattle.tape.proofs.tape.Tape.find.Goals.{After-deref}
 
-here : (g : given.Over) (c : goal.After-deref g) → let t = c.args.self.now in Here g.F.Key.WIDE t.width t.containers t.entries c.args.place.container (vec_items t.bytes)
-here g c =
-    let a = c.if-place-seen.false in
-    let b = c.seen.ensures in
-    held_here _ _ _ _ _ _ (omega arith)
-
-pub returns-then-place-seen : goal.returns-then-place-seen
-returns-then-place-seen g c =
-    let a = c.if-place-seen.true in
-    let b = c.seen.ensures in
-    let none = held_past (held_by g.F.Key.WIDE c.args.self.now) c.args.place.container (omega arith) in
-    (c.of.ensures, omega arith)
-
-pub seek-requires : goal.seek-requires
-seek-requires g c =
-    logged_seen _ _ _ _ _ _ _ c.args.self.now.good refl c.deref.ensures.value
-
-pub returns-in-Some : goal.returns-in-Some
-returns-in-Some g c = found_seen _ _ _ _ _ _ _ _ _ (here g (goal.at.returns-in-Some g c).After-deref) c.deref.ensures.value c.in-Some.ensures
-
-pub returns-in-None : goal.returns-in-None
-returns-in-None g c =
-    let t = c.args.self.now in
-    let h = here g (goal.at.returns-in-None g c).After-deref in
-    let e = ap (λ bs. length (records_in c.args.place.container (log_of t.width t.entries bs))) c.deref.ensures.value in
-    let r = ap length h.records in
-    let s = c.in-None.ensures in
-    (c.of-in-None.ensures, omega arith)
+pub returns : goal.returns
+returns g c =
+    let w = g.F.Key.WIDE in
+    let es = log_of w c.log.result.entries c.log.result.bytes.now in
+    let source = ap (λ l. log_of w l.entries l.bytes.now) c.filter.ensures.source in
+    let road = YieldsList-from_first (entry_by g.F.Key.bytes) (λ l. log_of w l.entries l.bytes.now) es source in
+    let there : option_map (entry_by g.F.Key.bytes) c.nth.result ≡ slice_get (entries_in c.args.place.container es) c.args.place.index =
+    nth_from_yields_List c.nth.result c.nth.new.self c.args.place.index c.nth.ensures.ran (YieldsList-from_filter _ (λ e. e.container == c.args.place.container) road c.filter.ensures.closure (λ x b q k. search (rules, tests))) in
+    let stored : c.map.result ≡ option_map (λ e. e.stored) c.nth.result = search (rules, tests) in
+    found_by g.F.Key.bytes c.args.place.container c.args.place.index es _ (c.log.ensures.records c.args.place.container) c.nth.result c.map.result c.ok_or.result there stored c.ok_or.ensures.value

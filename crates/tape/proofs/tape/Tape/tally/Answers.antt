@@ -1,22 +1,35 @@
-use Rattle.std.proofs.Common.{◌<◌, length, vec_items, sym, refl, ap, ◌∙◌, arith}
-use Rattle.records.specs.Records.{payload_bytes}
+use Rattle.std.proofs.Common.{refl, ap, ◌∙◌, arith}
+use Rattle.devices.proofs.Holding.{few_records}
 use Rattle.tape.specs.Log.{log_of, records_in}
 use Rattle.tape.specs.Meaning.{held_by}
-use Rattle.tape.specs.Seen.{held_here, logged_seen, of_container_lem}
+use Rattle.tape.specs.Holding.{held-held}
+use Rattle.tape.proofs.Chains.{bytes_fit}
+use Rattle.tape.proofs.Counts.{counted_none, counted_space, counted_here, counted_other, counted_all}
 use Rattle.tape.proofs.tape.Tape.tally.Goals as goal
 
-pub count_in-requires : goal.count_in-requires
-count_in-requires g c =
+pub loop-entry-init : goal.loop-entry-init
+loop-entry-init g c =
+    counted_none c.args.container _ _ (ap (λ l. records_in c.args.container (log_of g.F.Key.WIDE l.entries l.bytes.now)) c.into_iter-entry-iterator.ensures.into_iter_gives ∙ c.log-entry-items.ensures.records c.args.container)
+
+pub overflow_add-records : goal.overflow_add-records
+overflow_add-records g c =
     let t = c.args.self.now in
-    logged_seen _ _ _ _ _ _ _ t.good refl c.deref.ensures.value
+    let few = few_records g.F.Key.WIDE (held_by g.F.Key.WIDE t) c.args.container (held-held _ _ _ _ _ _ t.good) in
+    let s = counted_space _ _ _ _ _ c.loop-entry.invariant _ _ c.in-Some.ensures.steps c.if-entry-container.true in
+    omega arith
+
+pub overflow_add-payload : goal.overflow_add-payload
+overflow_add-payload g c =
+    let t = c.args.self.now in
+    let few = bytes_fit g.F.Key.WIDE (held_by g.F.Key.WIDE t) c.args.container (held-held _ _ _ _ _ _ t.good) in
+    let s = counted_space _ _ _ _ _ c.loop-entry.invariant _ _ c.in-Some.ensures.steps c.if-entry-container.true in
+    omega arith
+
+pub loop-entry-preserved-then-entry-container : goal.loop-entry-preserved-then-entry-container
+loop-entry-preserved-then-entry-container g c = counted_here _ _ _ _ _ c.loop-entry.invariant _ _ c.in-Some.ensures.steps _ _ c.if-entry-container.true refl refl
+
+pub loop-entry-preserved : goal.loop-entry-preserved
+loop-entry-preserved g c = counted_other _ _ _ _ _ c.loop-entry.invariant _ _ c.in-Some.ensures.steps _ _ c.if-entry-container.false refl refl
 
 pub returns : goal.returns
-returns g c =
-    let t = c.args.self.now in
-    let cs = held_by g.F.Key.WIDE t in
-    let inside : c.args.container < length cs = (let a = c.if-container-seen.false in let b = c.seen.ensures in omega arith) in
-    let here = held_here g.F.Key.WIDE t.width t.containers t.entries c.args.container (vec_items t.bytes) inside in
-    let rs = ap (λ bs. records_in c.args.container (log_of t.width t.entries bs)) c.deref.ensures.value ∙ sym here.records in
-    let n = c.count_in.ensures.records ∙ ap length rs in
-    let m = c.count_in.ensures.payload ∙ ap payload_bytes rs in
-    of_container_lem (λ x. record { records = length x; payload = payload_bytes x }) cs c.args.container c.count_in.result inside (λ i. record { records = n i; payload = m i })
+returns g c = let all = counted_all _ _ _ _ _ c.loop-entry.invariant c.in-None.ensures.steps.0 in record { records = all.0; payload = all.1 }

@@ -1,9 +1,8 @@
-use Rattle.std.proofs.Common.{◌+◌, ◌≤◌, List, ◌++◌, map, length, take, sym, subst, arith}
+use Rattle.std.proofs.Common.{◌≤◌, List, ◌++◌, map, length, subst, arith}
 use Rattle.std.proofs.lemmas.List.{take_all}
 use Rattle.records.specs.Records.{Rec}
 use Rattle.devices.specs.Questions.{records_of}
 use Rattle.slots.specs.Walks.{keys_of}
-use Rattle.slots.specs.declared.slot.Slot.{Slot}
 use Rattle.trees.proofs.Ranks.{nth_past}
 use Rattle.walks.specs.Sweeps.{Sweep}
 use Rattle.walks.proofs.Told.{untold_none, count_is}
@@ -11,7 +10,6 @@ use Rattle.walks.proofs.Visiting.{passed_err, node_more}
 use Rattle.walks.proofs.sweep.Nodes.visit_container.Given as given
 use Rattle.walks.proofs.sweep.Nodes.visit_container.Goals as goal
 use Rattle.walks.proofs.Grounds.{Ground, grounded}
-use Rattle.walks.proofs.sweep.Nodes.visit_container.Goals.{in-Ok+in_ok-visit_node, in_default}
 
 abbrev ground : (g : given.Over) → g.row.D.Denot → Ground g.row.D-Kind.Denot
 ground g = grounded g.D.Kind.Key g.met.D.Kind.Key.any g.met.D.Kind.Key.back g.D.Device g.met.D.Device.held
@@ -21,20 +19,17 @@ returns-in_err-visit_node g c done root slots s =
     passed_err g.D.Kind.Key.WIDE (g.D.Device.contents c.args.self.now.device.now) root slots _ c.from_residual.result c.in_err-visit_node.field-0.0 c.from_residual.ensures.1
     (c.in_err-visit_node.ensures _ root slots (c.loop-index.invariant root slots done s))
 
+pub loop-index-preserved-in_default : goal.loop-index-preserved-in_default
+loop-index-preserved-in_default g c root slots done s =
+    let cs = g.D.Device.contents c.args.self.now.device.now in
+    absurd (
+    let past : length (records_of cs c.args.container) ≤ c.loop-index.index = nth_past (records_of cs c.args.container) c.loop-index.index (untold_none cs (record { container = c.args.container; index = c.loop-index.index }) (λ r. g.D.Kind.Key.key r.fingerprint) c.in_default.field-0 c.in_default.ensures) in
+    omega (arith, c.loop-index-test.true, c.unwrap_or-index-end.ensures, count_is cs c.args.container c.records.result c.records.ensures))
+
 pub loop-index-preserved : goal.loop-index-preserved
 loop-index-preserved g c root slots done s =
-    let k = g.D.Kind.Key in
-    let d = c.args.self.now.device.now in
-    let cs = g.D.Device.contents d in
-    let i = c.loop-index.invariant root slots done s in
-    let After : List (Slot g.row.D-Kind.Denot) → Type 0 = λ t. Sweep k.bytes k.WIDE cs root slots c.args.self.now.level (map (λ r. r.fingerprint) (take (c.loop-index.index + 1) (records_of cs c.args.container)) ++ done) (keys_of t) in
-    elim c.match-fingerprint.branch [
-      | in-Ok+in_ok-visit_node w ↦ subst After (sym w.table-is)
-          (node_more (ground g d) root slots c.args.self.now.level c.args.container c.loop-index.index w.in-Ok.node w.in-Ok.ensures done (keys_of w.visit_node.new.table) (w.in_ok-visit_node.ensures _ root slots i))
-      | in_default w ↦ absurd (
-          let past : length (records_of cs c.args.container) ≤ c.loop-index.index = nth_past (records_of cs c.args.container) c.loop-index.index (untold_none cs (record { container = c.args.container; index = c.loop-index.index }) (λ r. k.key r.fingerprint) w.in_default.field-0 w.in_default.ensures) in
-          omega (arith, c.loop-index-test.true, c.unwrap_or-index-end.ensures, count_is cs c.args.container c.records.result c.records.ensures))
-    ]
+    node_more (ground g c.args.self.now.device.now) root slots c.args.self.now.level c.args.container c.loop-index.index c.in-Ok.node c.in-Ok.ensures done (keys_of c.visit_node.new.table)
+    (c.in_ok-visit_node.ensures _ root slots (c.loop-index.invariant root slots done s))
 
 pub returns : goal.returns
 returns g c done root slots s =

@@ -1,5 +1,5 @@
 -- Entries and logs in bytes and back.
-use Rattle.std.specs.Prelude.{◌≡◌, ℕ, zero, suc, ◌+◌, ◌-◌, ◌≤◌, Bool, true, cond, leb, List, [], ◌∷◌, ◌++◌, length, take, drop, Some, None, nat_le, refl}
+use Rattle.std.specs.Prelude.{◌≡◌, ℕ, zero, suc, ◌+◌, ◌-◌, ◌≤◌, Bool, true, cond, List, [], ◌∷◌, ◌++◌, length, take, drop, nat_le, refl}
 use Rattle.std.proofs.Common.{sym, ap, subst, ◌∙◌, arith}
 use borrow.Rule.Slice.PartMut.{put_mid}
 use Rattle.std.specs.List.{AllByRecursion}
@@ -148,22 +148,6 @@ entry-written w a e to t x z fits wide place space head fit wrote copied =
     let tu : take a u ≡ A = ap (take a) ua ∙ take_at A (drop w R) a la in
     let b : drop (length pay) (drop w R) ≡ drop (entry_size w e) to = past_three 4 w (length pay) (entry_size w e) to (omega arith) in
     put_rest a u z (omega arith) ∙ (λ i. tu i ++ zu i) ∙ ap (λ q. e.container ∷ e.stored.level ∷ (little 2 (length pay) ++ (fp ++ (pay ++ q)))) b
-
--- a key that is read off some bytes from a place on
-pub key_read : {K : Type 0} (key : List ℕ → K) (w at : ℕ) (bs : List ℕ) (k : K) → at + w ≤ length bs → let from = take (length bs - at) (drop at bs) in
-    Some k ≡ cond (nat_le w (length from)) (Some (key (take w from))) None → k ≡ key (take w (drop at bs))
-key_read key w at bs k space told =
-    let from : List ℕ = take (length bs - at) (drop at bs) in
-    let whole : from ≡ drop at bs = take_rest bs at in
-    let l : length from ≡ length bs - at = ap length whole ∙ length-drop at bs in
-    let enough : leb w (length from) ≡ true = le-leb w (length from) (omega arith) in
-    let is : Some k ≡ Some (key (take w from)) = told ∙ ap (λ b. cond b (Some (key (take w from))) None) enough in
-    let same : k ≡ key (take w from) = cc in
-    same ∙ ap (λ x. key (take w x)) whole
-
--- an entry that is written at a place
-pub entry-put : (w at : ℕ) (e : Entry) (bs last : List ℕ) → at ≤ length bs → last ≡ laid_before e (drop (entry_size w e) (take (length bs - at) (drop at bs))) → put_mid at (length bs - at) bs last ≡ take at bs ++ laid_before e (drop (entry_size w e) (drop at bs))
-entry-put w at e bs last h is = put_rest at bs last h ∙ ap (λ x. take at bs ++ x) (is ∙ ap (λ x. laid_before e (drop (entry_size w e) x)) (take_rest bs at))
 
 -- every entry takes a byte at least
 pub count_size : (w : ℕ) (es : List Entry) → length es ≤ log_size w es

@@ -7,9 +7,9 @@ use Rattle.std.proofs.lemmas.List.Elements.{filter_more}
 use Rattle.std.proofs.lemmas.List.{append-nil, drop-drop, length-drop, length_push, take_all, take-append-drop}
 use Rattle.std.proofs.lemmas.Bool.{eq-eqb, ne_eqb}
 use Rattle.tape.specs.Log.{Entry, no_entry, Logged, log_before, entry_size, log_size, length_at, log_of, without}
-use Rattle.tape.specs.Entries.{log_append, log_join, size_join, take_log}
-use Rattle.tape.specs.Walks as walk
-use Rattle.tape.specs.Walks.{On, on_start, on_more, container_is, size_is, space, front_is, sound}
+use Rattle.tape.proofs.Entries.{log_append, log_join, size_join, take_log}
+use Rattle.tape.proofs.Walks as walk
+use Rattle.tape.proofs.Walks.{On, on_start, on_more, container_is, size_is, space, front_is, sound}
 
 -- i entries are passed; those of them that stay stand at the front
 pub record Swept (w c i at count used : ℕ) (bs : List ℕ) (es : List Entry) : Type 0 where

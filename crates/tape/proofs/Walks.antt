@@ -1,11 +1,10 @@
 -- Walking a log entry by entry.
-use Rattle.std.specs.Prelude.{◌≡◌, ℕ, ◌+◌, ◌-◌, ◌<◌, ◌≤◌, cond, List, ◌∷◌, length, drop, ◌≢◌, slice_index, slice_index_or, refl}
+use Rattle.std.specs.Prelude.{◌≡◌, ℕ, ◌+◌, ◌-◌, ◌<◌, ◌≤◌, List, ◌∷◌, length, drop, slice_index, slice_index_or}
 use Rattle.std.proofs.Common.{sym, ap, subst, ◌∙◌, arith}
 use Rattle.std.specs.List.{AllByRecursion}
 use Rattle.std.proofs.lemmas.List.{drop-drop, drop_more, length-drop}
-use Rattle.std.proofs.lemmas.Bool.{eq-eqb, ne_eqb}
-use Rattle.tape.specs.Log.{Entry, no_entry, Sound, Logged, laid_before, log_before, entry_size, log_size, length_at, entry_of, log_of, records_in}
-use Rattle.tape.specs.Entries.{length_told, entry_read, length-laid, drop-laid, length-log_of}
+use Rattle.tape.specs.Log.{Entry, no_entry, Sound, Logged, laid_before, log_before, entry_size, log_size, length_at, entry_of, log_of}
+use Rattle.tape.proofs.Entries.{length_told, entry_read, length-laid, drop-laid, length-log_of}
 
 -- the entries es stand in bs from `at` on
 pub record On (w : ℕ) (bs : List ℕ) (at : ℕ) (es : List Entry) : Type 0 where
@@ -72,9 +71,3 @@ module _ (w i at : ℕ) (bs : List ℕ) (es : List Entry) (on : On w bs at (drop
   -- the entry's container as it was read
   pub container_is : (k : ℕ) → k ≡ slice_index (drop at bs) 0 → k ≡ entry.container
   container_is k p = p ∙ ap (λ x. x.container) entry_is
-
-  pub records_here : (c : ℕ) → slice_index (drop at bs) 0 ≡ c → records_in c (drop i es) ≡ entry.stored ∷ records_in c (drop (i + 1) es)
-  records_here c p = ap (records_in c) next_is ∙ ap (λ b. cond b (entry.stored ∷ records_in c (drop (i + 1) es)) (records_in c (drop (i + 1) es))) (eq-eqb entry.container c (sym (container_is _ refl) ∙ p))
-
-  pub records_not : (c : ℕ) → (slice_index (drop at bs) 0 ≢ c) → records_in c (drop i es) ≡ records_in c (drop (i + 1) es)
-  records_not c p = ap (records_in c) next_is ∙ ap (λ b. cond b (entry.stored ∷ records_in c (drop (i + 1) es)) (records_in c (drop (i + 1) es))) (ne_eqb entry.container c (λ q. p (container_is _ refl ∙ q)))
