@@ -1,5 +1,6 @@
 // girvoupa copy FROM TO: a container file copied record by record, by way of a tape, into one laid out afresh.
-ghost use Rattle.std.specs.Prelude.{◌≡◌, [], take, replicate, IfOk, MatchOption, ◌≢◌};
+ghost use Rattle.std.specs.Prelude.{◌≡◌, ◌==◌, not, [], position, take, replicate, IfOk, MatchOption, ◌≢◌};
+ghost use Rattle.std.specs.List.{zip};
 ghost use Rattle.container_file.specs.Meaning.{contents_of};
 ghost use Rattle.tape.specs.Meaning.{held_by};
 
@@ -37,7 +38,10 @@ fn fresh_file<F: Fingerprint>(heap: Global, count: usize) -> Result<ContainerFil
     ensures { IfOk result (λ s. contents_of F.Key.WIDE s ≡ replicate count []) }
 {
     let size = container_size::<F>().saturating_mul(count);
-    let file = ContainerFile::lay_out(vec![in heap; 0u8; size]?, count).map_err(|(refusal, _)| refusal)?;
+    let file = ContainerFile::lay_out(vec![in heap; 0u8; size]?, count).map_err(|(
+        refusal,
+        _,
+    )| refusal)?;
     Ok(file)
 }
 
@@ -67,16 +71,22 @@ fn totals<D: Device>(device: &D) -> (usize, usize) {
     (records, bytes)
 }
 
-// The first place at which two rows of bytes differ, if they do.
+// The first place at which two rows of bytes have two bytes that differ, if they do.
+fn unequal_at(first: &[u8], second: &[u8]) -> Option<usize>
+    ensures { result ≡ position (λ p. not (p.0 == p.1)) (zip first.now second.now) }
+{
+    first.iter().zip(second).position(|(a, b)| a != b)
+}
+
+// The first place at which two rows of bytes differ, if they do: where one ends before the other, its end.
 fn difference(first: &[u8], second: &[u8]) -> Option<usize>
     ensures { MatchOption result (first.now ≡ second.now) (λ at. (take at first.now ≡ take at second.now) × (first.now ≢ second.now)) }
 {
+    if first == second {
+        return None;
+    }
     let shorter = first.len().min(second.len());
-    first
-        .iter()
-        .zip(second)
-        .position(|(a, b)| a != b)
-        .or((first.len() != second.len()).then_some(shorter))
+    Some(unequal_at(first, second).unwrap_or(shorter))
 }
 
 // Prints what was moved, and whether the copy is equal byte for byte.

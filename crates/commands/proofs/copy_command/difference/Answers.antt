@@ -1,19 +1,14 @@
-use Rattle.std.proofs.Common.{get_or, sym, ap, ◌∙◌, arith}
-use Rattle.std.proofs.lemmas.List.{take_all, take_more_same}
+use Rattle.std.proofs.Common.{take, ap, ◌∙◌, sym, rules}
+use Rattle.std.specs.List.{zip}
+use Rattle.std.specs.Option.{unwrap_or}
+use Rattle.std.proofs.lemmas.Slice.Zip.{length-zip}
+use Rattle.commands.proofs.Differing.{differ, place_or_end, same_before}
 use Rattle.commands.proofs.copy_command.difference.Goals as goal
 
-pub returns-then-first-at : goal.returns-then-first-at
-returns-then-first-at c = (c.loop-at.invariant, λ same. c.if-first-at.true (ap (λ xs. get_or xs c.loop-at.at 0) same))
-
-pub loop-at-preserved : goal.loop-at-preserved
-loop-at-preserved c =
-    let m = c.min-shorter.ensures in
-    let t = c.loop-at-test.true in
-    take_more_same c.args.first.now c.args.second.now c.loop-at.at 0 (omega arith) (omega arith) c.loop-at.invariant c.if-first-at.false
-
-pub returns-then-first-second : goal.returns-then-first-second
-returns-then-first-second c =
-    let m = c.min-shorter.ensures in
-    let t = c.loop-at-test.false in
-    let e = c.if-first-second.true in
-    sym (take_all c.loop-at.at c.args.first.now (omega arith)) ∙ c.loop-at.invariant ∙ take_all c.loop-at.at c.args.second.now (omega arith)
+pub returns : goal.returns
+returns c =
+    let xs = c.args.first.now in
+    let ys = c.args.second.now in
+    let end = c.min-shorter.result in
+    let e = c.unwrap_or.ensures ∙ ap (λ o. unwrap_or o end) c.unequal_at.ensures ∙ place_or_end differ (zip xs ys) end (length-zip xs ys ∙ sym c.min-shorter.ensures) in
+    (ap (λ n. take n xs) e ∙ same_before xs ys ∙ sym (ap (λ n. take n ys) e), search rules)
