@@ -6,7 +6,7 @@ ghost use Rattle.admission.specs.Causes.{fault_of, repeat_of};
 
 use devices::Device;
 use keys::{Fingerprint, is_named};
-use records::{Cause, Place, Record, Refusal, is_shaped};
+use records::{Cause, MOST_BYTES, Place, Record, Refusal, is_shaped};
 
 // What is wrong with a record by itself.
 fn fault<F: Fingerprint>(found: Record<'_, F>) -> Option<Cause>
@@ -27,7 +27,7 @@ pub(crate) fn fault_at<D: Device>(device: &D, place: Place) -> Result<Option<Cau
 {
     let level = device.level(place)?;
     let fingerprint = device.fingerprint(place)?;
-    let mut buffer = [0u8; 7168];
+    let mut buffer = [0; MOST_BYTES];
     let len = device.payload(place, &mut buffer)?;
     Ok(fault(Record {
         level,

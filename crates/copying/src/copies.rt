@@ -7,7 +7,7 @@ ghost use Rattle.devices.specs.Changes.{append_answer, append_after};
 ghost use Rattle.copying.specs.Copies.{MovedOne, MovedAll};
 
 use devices::Device;
-use records::{Place, Record, Refusal};
+use records::{MOST_BYTES, Place, Record, Refusal};
 
 // Appends a record of one device to the same container of another.
 fn copy_record<X: Device, Y: Device<Kind = X::Kind>>(
@@ -21,7 +21,7 @@ fn copy_record<X: Device, Y: Device<Kind = X::Kind>>(
 {
     let level = from.level(place)?;
     let fingerprint = from.fingerprint(place)?;
-    let mut buffer = [0u8; 7168];
+    let mut buffer = [0; MOST_BYTES];
     let len = from.payload(place, &mut buffer)?;
     let payload = &buffer[..len];
     to.append(

@@ -9,10 +9,7 @@ ghost use Rattle.presence.specs.declared.present.Presence.TheVariants.{Same, Oth
 use crate::present::Presence;
 use devices::Device;
 use octets::same_bytes;
-use records::{Place, Record};
-
-// The most payload bytes of a container. No call here may allocate: a payload is read into an array of this length, whatever its own.
-const LONGEST: usize = 7168;
+use records::{MOST_BYTES, Place, Record};
 
 // What a stored level and stored bytes say of these.
 fn compared(stored: u8, held: &[u8], level: u8, payload: &[u8]) -> Presence
@@ -30,7 +27,7 @@ fn present_at<D: Device>(device: &D, place: Place, level: u8, payload: &[u8]) ->
     ensures { result ≡ if_some None (λ x. Some (if nat_eq x.level level && same_bytes x.payload payload.now then Same else Other)) (standing (D.contents device.now) place) }
 {
     let stored = device.level(place).ok()?;
-    let mut buffer = [0; LONGEST];
+    let mut buffer = [0; MOST_BYTES];
     let long = device.payload(place, &mut buffer).ok()?;
     Some(compared(stored, &buffer[..long], level, payload))
 }

@@ -7,17 +7,13 @@ ghost use Rattle.walks.specs.Descents.{as_key};
 
 use devices::Device;
 use keys::{Fingerprint, Key};
-use records::Place;
-
-// The most payload bytes of a container, so that a buffer of this length takes any payload. No call here may allocate: a payload is read
-// into an array, whatever its length.
-pub(crate) const LONGEST: usize = 7168;
+use records::{MOST_BYTES, Place};
 
 // The payload of the record at a place, copied into a buffer; no bytes where there is no such record.
 pub(crate) fn payload_at<'b, D: Device>(
     device: &D,
     place: Place,
-    buffer: &'b mut [u8; LONGEST],
+    buffer: &'b mut [u8; MOST_BYTES],
 ) -> &'b [u8]
     ensures { result.now ≡ payload_of (standing (D.contents device.now) place) }
 {
@@ -37,7 +33,7 @@ pub(crate) fn piece_at<F: Fingerprint>(payload: &[u8], index: usize) -> Option<F
 pub(crate) fn child_at<D: Device>(device: &D, place: Place, index: usize) -> Option<D::Kind>
     ensures { result ≡ as_key D.Kind.Key.key (slice_get (cut D.Kind.Key.WIDE (payload_of (standing (D.contents device.now) place))) index) }
 {
-    let mut buffer = [0; LONGEST];
+    let mut buffer = [0; MOST_BYTES];
     piece_at(payload_at(device, place, &mut buffer), index)
 }
 

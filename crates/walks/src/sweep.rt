@@ -7,11 +7,11 @@ ghost use Rattle.trees.specs.Holding.{record_of, standing};
 ghost use Rattle.trees.specs.Trees.{StoredUnder, payload_of, stands};
 ghost use Rattle.walks.specs.Sweeps.{Enters, Admits, AdmitsAll, Moves};
 
-use crate::children::{LONGEST, payload_at};
+use crate::children::payload_at;
 use crate::flaw::Flaw;
 use devices::Device;
 use keys::Key;
-use records::Place;
+use records::{MOST_BYTES, Place};
 use slots::{Probe, Slot, insert, lookup};
 
 // Puts a node's fingerprint into the table, unless it is there already.
@@ -89,7 +89,7 @@ impl<'a, D: Device> Nodes<'a, D> {
     fn admit_children(&self, place: Place, table: &mut [Slot<D::Kind>]) -> Result<(), Flaw>
         ensures { AdmitsAll D.Kind.Key.bytes D.Kind.Key.WIDE (D.contents self.now.device.now) place self.now.level (payload_of (standing (D.contents self.now.device.now) place)) (keys_of table.old) (keys_of table.new) result }
     {
-        let mut buffer = [0; LONGEST];
+        let mut buffer = [0; MOST_BYTES];
         self.admit_pieces(place, payload_at(self.device, place, &mut buffer), table)
     }
 
