@@ -76,18 +76,23 @@ module _ (w n k used : ℕ) (bs : List ℕ) (g : Good w n k used bs) (e : Entry)
         let l = g.long in
         omega arith
 
-    pub good_more : Sound w e → (k' used' : ℕ) (bs' : List ℕ) → k' ≡ k + 1 → used' ≡ used + entry_size w e → length bs' ≡ length bs → bs' ≡ take used bs ++ laid_before e (drop (entry_size w e) (drop used bs)) →
-        Good w n k' used' bs' × (gathered n (log_of w k' bs') ≡ appended (gathered n es) e.container e.stored)
-    good_more sound k' used' bs' kk uu ll is =
-        let limited_more : Limited w n (es ++ e ∷ []) = record { narrow = g.narrow; few = g.few; each = All-push (Sound w) es e g.logged.each sound; within = within_more; fits = fits_more } in
-        let u = g.front in
-        let more : List ℕ = drop (entry_size w e) (drop used bs) in
-        let front : take used bs ≡ log_before es [] = (λ i. take (sym u i) (sym g.logged.whole i)) ∙ take_log w es (drop (log_size w es) bs) g.logged.each in
-        let b : bs' ≡ log_before (es ++ e ∷ []) more = is ∙ ap (λ x. x ++ laid_before e more) front ∙ sym (log_append es (laid_before e more)) ∙ sym (log_join es (e ∷ []) more) in
-        let n' : length (es ++ e ∷ []) ≡ k' = length_push es e ∙ ap (λ x. x + 1) (length-log_of w k bs) ∙ sym kk in
-        let s : log_size w (es ++ e ∷ []) ≡ used' = size_join w es (e ∷ []) ∙ omega arith in
-        let made = good_made w n k' used' (es ++ e ∷ []) more bs' limited_more (ll ∙ g.long) n' s b in
-        (made.0, ap (gathered n) made.1 ∙ gathered_push n e es ∙ ap (λ x. slice_set (gathered n es) e.container (x ++ e.stored ∷ [])) (sym (get_or-gathered n e.container es here)))
+    module _ (sound : Sound w e) where
+      -- the log with the entry keeps the limits
+      pub limited_more : Limited w n (es ++ e ∷ [])
+      limited_more = record { narrow = g.narrow; few = g.few; each = All-push (Sound w) es e g.logged.each sound; within = within_more; fits = fits_more }
+
+      -- the tape with the entry stays in order
+      pub good_more : (k' used' : ℕ) (bs' : List ℕ) → k' ≡ k + 1 → used' ≡ used + entry_size w e → length bs' ≡ length bs → bs' ≡ take used bs ++ laid_before e (drop (entry_size w e) (drop used bs)) →
+          Good w n k' used' bs' × (gathered n (log_of w k' bs') ≡ appended (gathered n es) e.container e.stored)
+      good_more k' used' bs' kk uu ll is =
+          let u = g.front in
+          let more : List ℕ = drop (entry_size w e) (drop used bs) in
+          let front : take used bs ≡ log_before es [] = (λ i. take (sym u i) (sym g.logged.whole i)) ∙ take_log w es (drop (log_size w es) bs) g.logged.each in
+          let b : bs' ≡ log_before (es ++ e ∷ []) more = is ∙ ap (λ x. x ++ laid_before e more) front ∙ sym (log_append es (laid_before e more)) ∙ sym (log_join es (e ∷ []) more) in
+          let n' : length (es ++ e ∷ []) ≡ k' = length_push es e ∙ ap (λ x. x + 1) (length-log_of w k bs) ∙ sym kk in
+          let s : log_size w (es ++ e ∷ []) ≡ used' = size_join w es (e ∷ []) ∙ omega arith in
+          let made = good_made w n k' used' (es ++ e ∷ []) more bs' limited_more (ll ∙ g.long) n' s b in
+          (made.0, ap (gathered n) made.1 ∙ gathered_push n e es ∙ ap (λ x. slice_set (gathered n es) e.container (x ++ e.stored ∷ [])) (sym (get_or-gathered n e.container es here)))
 
 -- a container less
 pub good_without : (w n k used c k' used' : ℕ) (bs bs' : List ℕ) → Good w n k used bs → let es = without c (log_of w k bs) in k' ≡ length es → used' ≡ log_size w es → length bs' ≡ length bs → bs' ≡ log_before es (drop used' bs') →

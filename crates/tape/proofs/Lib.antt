@@ -10,3 +10,7 @@ pub mod Views
 pub mod Chains
 pub mod Counts
 pub mod Firsts
+pub mod Found
+pub mod Turns
+pub mod Puts
+pub mod DeviceAnswers

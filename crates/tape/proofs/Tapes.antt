@@ -1,7 +1,7 @@
 -- A tape as its kind of fingerprint sees it, before and after a change.
 use Rattle.std.specs.Prelude.{◌≡◌, ℕ, ◌+◌, ◌<◌, ◌≤◌, Bool, true, false, cond, List, [], ◌++◌, length, take, drop, Some, None, Option, not, nat_eq, Vec, ◌==◌, nat_le, slice_index_or, refl}
-use Rattle.std.proofs.Common.{sym, ap, subst, ◌∙◌, ⊎_elim, arith}
-use Rattle.std.proofs.lemmas.Bool.{eqb-true, cases_eq, and_parts, leb-true}
+use Rattle.std.proofs.Common.{sym, ap, subst, ◌∙◌, ⊎_elim, rules, tests, arith}
+use Rattle.std.proofs.lemmas.Bool.{cases_eq, and_parts, leb-true}
 use Rattle.std.specs.Option.{option_eq}
 use Rattle.std.specs.Vec.{with_items}
 use Rattle.std.proofs.lemmas.List.{with_items_is}
@@ -17,17 +17,17 @@ use Rattle.tape.proofs.Keeping.{space_more, good_more, good_without}
 use Rattle.tape.proofs.Entries.{count_size, length-log_of}
 use Rattle.tape.proofs.Sweeps.{Left}
 
--- what a length that is a tape's says
-pub sized : (n len z : ℕ) (r : Option ℕ) → r ≡ cond (countable n) (Some z) None → false ≡ not (option_eq nat_eq r (Some len)) → (countable n ≡ true) × (len ≡ z)
-sized n len z r told e = go (countable n) (e ∙ ap (λ x. not (option_eq nat_eq x (Some len))) told)
+-- what a size that is told says
+pub sized : (n size z : ℕ) → Some size ≡ cond (countable n) (Some z) None → (countable n ≡ true) × (size ≡ z)
+sized n size z e = go (countable n) e
   where
-    is_true : (b : Bool) → false ≡ not b → b ≡ true
-    is_true true h = refl
-    is_true false h = h
+    go : (b : Bool) → Some size ≡ cond b (Some z) None → (b ≡ true) × (size ≡ z)
+    go true p = (refl, cc)
+    go false p = absurd (let q : ◌≡◌ {A = ℕ} 0 1 = cc in omega arith)
 
-    go : (b : Bool) → false ≡ not (option_eq nat_eq (cond b (Some z) None) (Some len)) → (b ≡ true) × (len ≡ z)
-    go true h = (refl, sym (eqb-true z len (is_true (nat_eq z len) h)))
-    go false h = (h, absurd (let q : ◌≡◌ {A = ℕ} 0 1 = cc in omega arith))
+-- a length that compares as equal to the size that is told
+pub sized_alike : (n len z : ℕ) (r : Option ℕ) → r ≡ cond (countable n) (Some z) None → false ≡ not (option_eq nat_eq r (Some len)) → (countable n ≡ true) × (len ≡ z)
+sized_alike n len z r told e = let same : Some len ≡ r = search (rules, tests) in sized n len z (same ∙ told)
 
 pub countable_few : (n : ℕ) → countable n ≡ true → n ≤ 32
 countable_few n e = leb-true n 32 (and_parts (nat_le 2 n) (nat_le n 32) e).1
