@@ -9,5 +9,5 @@ abbrev pub held_at : ℕ → ℕ → ℕ → ℕ → List ℕ → Contents
 held_at w v n k bs = cond (v == w) (gathered n (log_of v k bs)) []
 
 -- what a tape holds, seen by a kind of the width w
-abbrev pub held_by : {F : Type 0} {e : _} {f : _} {k : _} → ℕ → Tape F e f k → Contents
+abbrev pub held_by : {F : Type 0} → ℕ → Tape F → Contents
 held_by w t = held_at w t.width t.containers t.entries (vec_items t.bytes)

@@ -1,12 +1,11 @@
 // The tape.
 ghost use Rattle.tape.specs.Sizes.{Good};
 
-use keys::Fingerprint;
 use std::marker::PhantomData;
 
 // Containers whose records stand in one log at the front of given bytes.
 #[derive(Drop)]
-pub struct Tape<F: Fingerprint> {
+pub struct Tape<F> {
     pub(crate) bytes: Vec<u8>,
     // F's width, kept as a value: a ghost field that cites it is not covered in a struct that owns a Vec.
     pub(crate) width: usize,
