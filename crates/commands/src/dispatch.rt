@@ -2,7 +2,7 @@
 use crate::check_command::list;
 use crate::copy_command::{Fault, copy_file, report};
 use crate::sets_command::show;
-use anyhow::anyhow;
+use anyhow::{Context, anyhow};
 use container_file::ContainerFile;
 use keys::{Fnv, Key};
 use records::Place;
@@ -36,9 +36,7 @@ fn copy(rt: &HostRuntime, from: &str, to: &str) -> anyhow::Result<()> {
 
 // A record's place, as CONTAINER.INDEX.
 fn place(text: &str) -> anyhow::Result<Place> {
-    let Some((container, index)) = text.split_once('.') else {
-        return Err(anyhow!("{USAGE}"));
-    };
+    let (container, index) = text.split_once('.').context(USAGE)?;
     Ok(Place {
         container: container.parse::<usize>()?,
         index: index.parse::<usize>()?,
@@ -46,11 +44,10 @@ fn place(text: &str) -> anyhow::Result<Place> {
 }
 
 fn places(heap: Global, words: &[String]) -> anyhow::Result<Vec<Place>> {
-    let mut all = Vec::new(heap);
-    for word in words {
-        all.push(place(word.as_str())?)?;
-    }
-    Ok(all)
+    words
+        .iter()
+        .map(|word| place(word.as_str()))
+        .try_collect(heap)
 }
 
 fn sets(rt: &HostRuntime, words: &[String]) -> anyhow::Result<()> {
@@ -80,12 +77,7 @@ fn carry_out(rt: &HostRuntime, command: &str, words: &[String]) -> anyhow::Resul
 pub fn run(rt: &HostRuntime) -> anyhow::Result<()> {
     let mut args = env::args(rt)?;
     let _ = args.next();
-    let Some(command) = args.next() else {
-        return Err(anyhow!("{USAGE}"));
-    };
-    let mut words = Vec::new(rt.alloc());
-    for word in args {
-        words.push(word)?;
-    }
+    let command = args.next().context(USAGE)?;
+    let words = args.collect::<Vec<String>>(rt.alloc())?;
     carry_out(rt, command.as_str(), &words)
 }

@@ -23,20 +23,19 @@ pub fn places(heap: Global, file: &ContainerFile<Fnv>) -> Result<Vec<Place>, All
 // Starts a set, has it learn every record's fingerprint, and seals it.
 fn teach<L: LiveSet<Fnv>>(set: &mut L, file: &ContainerFile<Fnv>, all: &[Place]) {
     set.start();
-    for place in all {
-        if let Ok(fingerprint) = file.fingerprint(*place) {
-            let _ = set.learn(fingerprint);
-        }
+    for fingerprint in all.iter().filter_map(|place| file.fingerprint(*place).ok()) {
+        let _ = set.learn(fingerprint);
     }
     set.seal();
 }
 
 // Marks the records at some places.
 fn mark<L: LiveSet<Fnv>>(set: &mut L, file: &ContainerFile<Fnv>, marked: &[Place]) {
-    for place in marked {
-        if let Ok(fingerprint) = file.fingerprint(*place) {
-            set.mark(fingerprint);
-        }
+    for fingerprint in marked
+        .iter()
+        .filter_map(|place| file.fingerprint(*place).ok())
+    {
+        set.mark(fingerprint);
     }
 }
 

@@ -1,7 +1,7 @@
 // Turns bytes of a container file as the lines of its input say, and prints what the check answers to each.
 #![tactic(auto)]
 
-use anyhow::anyhow;
+use anyhow::Context;
 use container_format::check;
 use keys::{Fingerprint, Fnv};
 use one_byte::OneByte;
@@ -40,9 +40,9 @@ fn turned(heap: Global, file: &[u8], words: &str) -> anyhow::Result<Vec<u8>> {
 
 // A file of zero bytes at a width: 8 for FNV, else 1.
 fn zeros(rt: &HostRuntime, name: &str, words: &str) -> anyhow::Result<()> {
-    let Some((width, length)) = words.split_once(' ') else {
-        return Err(anyhow!("a width and a length are wanted"));
-    };
+    let (width, length) = words
+        .split_once(' ')
+        .context("a width and a length are wanted")?;
     let bytes = vec![in rt.alloc(); 0u8; length.parse::<usize>()?]?;
     if width == "8" {
         answer::<Fnv>(rt, name, &bytes)
@@ -52,12 +52,8 @@ fn zeros(rt: &HostRuntime, name: &str, words: &str) -> anyhow::Result<()> {
 }
 
 fn line(rt: &HostRuntime, file: &[u8], text: &str) -> anyhow::Result<()> {
-    let Some((name, rest)) = text.split_once('|') else {
-        return Err(anyhow!("a name is wanted"));
-    };
-    let Some((word, numbers)) = rest.split_once(' ') else {
-        return Err(anyhow!("a word is wanted"));
-    };
+    let (name, rest) = text.split_once('|').context("a name is wanted")?;
+    let (word, numbers) = rest.split_once(' ').context("a word is wanted")?;
     if word == "turn" {
         let bytes = turned(rt.alloc(), file, numbers)?;
         answer::<Fnv>(rt, name, &bytes)

@@ -1,7 +1,7 @@
 // Sends the same questions and changes to container files and tapes of two kinds, and prints what they answer.
 #![tactic(auto)]
 
-use anyhow::anyhow;
+use anyhow::{Context, anyhow};
 use container_file::ContainerFile;
 use container_format::container_size;
 use devices::Device;
@@ -46,9 +46,9 @@ fn byte(number: usize) -> u8 {
 }
 
 fn read_step(text: &str) -> anyhow::Result<Step> {
-    let Some((word, rest)) = text.split_once(' ') else {
-        return Err(anyhow!("a word and numbers are wanted"));
-    };
+    let (word, rest) = text
+        .split_once(' ')
+        .context("a word and numbers are wanted")?;
     let [a, b, c, d] = numbers(rest)?;
     match word {
         "append" => Ok(Step::Append {
@@ -130,7 +130,10 @@ fn answer<D: Device>(heap: Global, device: &mut D, step: Step) -> anyhow::Result
         Step::Record(place) => told(heap, record(device, place)),
         Step::Find { level, len, fill } => {
             let payload = vec![in heap; fill; len]?;
-            told(heap, Ok(found(device.first_place(D::Kind::of(level, &payload)))))
+            told(
+                heap,
+                Ok(found(device.first_place(D::Kind::of(level, &payload)))),
+            )
         }
     }
 }
@@ -143,18 +146,16 @@ struct Both<F: Fingerprint> {
 }
 
 fn lay_out_both<F: Fingerprint>(heap: Global) -> anyhow::Result<Both<F>> {
-    let Some(size) = tape_size::<F>(CONTAINERS) else {
-        return Err(anyhow!("no such tape"));
-    };
-    let Ok(file) = ContainerFile::<F>::lay_out(
+    let size = tape_size::<F>(CONTAINERS).context("no such tape")?;
+    let file = ContainerFile::<F>::lay_out(
         vec![in heap; 7u8; CONTAINERS * container_size::<F>()]?,
         CONTAINERS,
-    ) else {
-        return Err(anyhow!("no file"));
-    };
-    let Ok(tape) = Tape::<F>::lay_out(vec![in heap; 7u8; size]?, CONTAINERS) else {
-        return Err(anyhow!("no tape"));
-    };
+    )
+    .ok()
+    .context("no file")?;
+    let tape = Tape::<F>::lay_out(vec![in heap; 7u8; size]?, CONTAINERS)
+        .ok()
+        .context("no tape")?;
     Ok(Both { file, tape })
 }
 
