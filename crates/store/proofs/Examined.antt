@@ -1,5 +1,5 @@
--- What the finding of an examination says by the tests of a tree.
-use Rattle.std.proofs.Common.{◌≡◌, ℕ, ◌*◌, ◌≤◌, Bool, true, false, cond, not, eqb, List, [], ◌∷◌, length, Some, None, Ok, Err, Option, Result, sym, refl, ap, ⊎_elim, arith, length-append}
+-- What an examination tells by the tests of a tree.
+use Rattle.std.proofs.Common.{◌≡◌, ℕ, ◌*◌, ◌≤◌, Bool, true, false, cond, not, eqb, List, [], ◌∷◌, length, IsErrAnd, Some, None, Ok, Err, Option, Result, sym, refl, ap, ◌∙◌, ⊎_elim, arith, length-append}
 use Rattle.std.specs.List.{AllByRecursion}
 use Rattle.std.proofs.lemmas.Bool.{cases_Bool, ne_eqb, eq-eqb}
 use Rattle.records.specs.Limits.{Fits}
@@ -11,19 +11,17 @@ use Rattle.records.specs.declared.refusal.Refusal.{Refusal}
 use Rattle.trees.specs.Holding.{all, record_of}
 use Rattle.trees.specs.Trees.{StoredNode, Whole, level_of, is_whole}
 use Rattle.trees.proofs.Wholeness.{whole_computed}
-use Rattle.walks.specs.Findings.{Faulty}
-use Rattle.walks.specs.declared.finding.Finding.{Finding}
-use Rattle.walks.specs.declared.finding.Finding.TheVariants.{Broken, NoRoot as FindingNoRoot}
+use Rattle.walks.specs.Findings.{Faulty, Flawed, refusal_of}
+use Rattle.walks.specs.declared.flaw.Flaw.{Flaw}
+use Rattle.walks.specs.declared.flaw.Flaw.TheVariants.{Broken, TableFull, NoRoot as FlawNoRoot}
+use Rattle.walks.proofs.Visiting.{node_stored}
 use Rattle.store.specs.Keeping.{tree_answer}
+use Rattle.store.proofs.Testing.{handed_on}
 
 -- a device has at most 63 records for each container
 pub few_all : (cs : Contents) → AllByRecursion Fits cs → length (all cs) ≤ 63 * length cs
 few_all [] h = omega arith
 few_all (b ∷ cs) h = omega (arith, length-append b (all cs), few_all cs h.1, h.0.count)
-
-level_some : (o : Option Rec) → (level_of o ≡ 0 → ⊥) → (r : Rec) × (o ≡ Some r) × (1 ≤ r.level)
-level_some None h = absurd (h refl)
-level_some (Some r) h = (r, refl, omega arith)
 
 module _ (w : ℕ) (cs : Contents) (root : List ℕ) where
   -- the two tests of a tree
@@ -42,20 +40,22 @@ module _ (w : ℕ) (cs : Contents) (root : List ℕ) where
   found_no_root h =
       ⊎_elim
       (λ e. λ i. two (sym e i) (is_whole w cs root))
-      (λ e. absurd (h (level_some (record_of cs root) (λ z. let t : eqb (level_of (record_of cs root)) 0 ≡ true = eq-eqb _ 0 z in clash e t))))
+      (λ e. absurd (h (let n = node_stored cs root _ refl (λ z. let t : eqb (level_of (record_of cs root)) 0 ≡ true = eq-eqb _ 0 z in cc) in (n.0, n.1, n.2))))
       (cases_Bool (eqb (level_of (record_of cs root)) 0))
-    where
-      clash : {b : Bool} → b ≡ false → b ≡ true → ⊥
-      clash e t = let z : ◌≡◌ {A = ℕ} 0 1 = cc in omega arith
 
-  -- a root that is not found wanting is a stored node
-  root_there : (x : Place) → ((StoredNode cs root → ⊥) → ◌≡◌ {A = Finding} (Broken x) FindingNoRoot) → level_of (record_of cs root) ≡ 0 → ⊥
-  root_there x absent e = let h = absent (λ n. node_level n e) in let z : ◌≡◌ {A = ℕ} 0 1 = cc in omega arith
-
-  pub found_broken : (x : Place) → ((StoredNode cs root → ⊥) → ◌≡◌ {A = Finding} (Broken x) FindingNoRoot) → Faulty w cs root x → Err (untold BrokenTree) ≡ tree_answer w cs root
+  pub found_broken : (x : Place) → (level_of (record_of cs root) ≡ 0 → ⊥) → Faulty w cs root x → Err (untold BrokenTree) ≡ tree_answer w cs root
   unfolding two
-  found_broken x absent h =
+  found_broken x there h =
       ⊎_elim
       (λ e. absurd (h.missing (((whole_computed w cs root).0 e).below h.node h.child h.parent h.reached h.is h.above h.lists)))
-      (λ e. λ i. two (sym (ne_eqb _ 0 (root_there x absent)) i) (sym e i))
+      (λ e. λ i. two (sym (ne_eqb _ 0 there) i) (sym e i))
       (cases_Bool (is_whole w cs root))
+
+  -- the refusal of what is found wrong, with a slot for each record
+  pub found_wrong : (r : Result (Unit {0}) Refusal) (slots : ℕ) (e : Flaw) → IsErrAnd r (λ y. y ≡ refusal_of e) → Flawed w cs root slots e → ((StoredNode cs root → ⊥) → ◌≡◌ {A = Result (Unit {0}) Flaw} (Err e) (Err FlawNoRoot)) → length (all cs) ≤ slots → r ≡ tree_answer w cs root
+  found_wrong r slots e h t absent l = handed_on r (refusal_of e) h ∙ go e t absent
+    where
+      go : (e : Flaw) → Flawed w cs root slots e → ((StoredNode cs root → ⊥) → ◌≡◌ {A = Result (Unit {0}) Flaw} (Err e) (Err FlawNoRoot)) → Err (refusal_of e) ≡ tree_answer w cs root
+      go FlawNoRoot t absent = found_no_root t
+      go (Broken x) t absent = found_broken x (λ z. let h = absent (λ n. node_level n z) in cc) t
+      go TableFull t absent = absurd (omega (arith, t.1))

@@ -1,9 +1,7 @@
-pub mod NewRecords
-pub mod Entering
-pub mod Examined
 pub mod Testing
+pub mod NewRecords
 pub mod Kept
 pub mod Opened
-pub mod Standing
 pub mod Giving
-pub mod Stepping
+pub mod Standing
+pub mod Examined

@@ -1,30 +1,32 @@
--- A record that passes all tests and is not stored yet is answered as a new one.
-use Rattle.std.proofs.Common.{◌≡◌, ℕ, Bool, true, false, cond, not, ◌&&◌, List, Ok, Err, Result, sym, ◌∙◌}
+-- What an idle store answers and keeps, by the shape of a record and by what is stored of it.
+use Rattle.std.proofs.Common.{◌≡◌, Bool, cond, not, ◌&&◌, [], ◌∷◌, Ok, Err, Result, is_none, ◌∙◌}
 use Rattle.records.specs.Records.{Rec}
 use Rattle.records.specs.Refusals.{untold}
-use Rattle.records.specs.declared.refusal.Cause.TheVariants.{Shut, MarkingOpen, Shape, Collision, StoreFull}
+use Rattle.records.specs.declared.refusal.Cause.TheVariants.{Shape, Collision, StoreFull}
 use Rattle.records.specs.declared.refusal.Refusal.{Refusal}
 use Rattle.presence.specs.Presences.{presence_of}
-use Rattle.presence.specs.declared.present.Presence.TheVariants.{Absent}
+use Rattle.presence.specs.declared.present.Presence.{Presence}
 use Rattle.store.specs.States.{State}
-use Rattle.store.specs.Putting.{is_absent, is_other, is_nowhere, put_choice, settled_by, new_answer, after_new, put_answer, after_put}
+use Rattle.store.specs.Refusing.{tested, shut, busy}
+use Rattle.store.specs.Putting.{is_absent, is_other, put_choice, settled_by, put_answer, after_put}
 use Rattle.store.specs.declared.tokens.Stored.{Stored}
+use Rattle.store.proofs.Testing.{passed, passed_change}
 
-module _ (s : State) (fits : Bool) (r : Rec) (admitted : s.admitted ≡ true) (idle : s.marking ≡ false) (shaped : fits ≡ true) (absent : Absent ≡ presence_of s.contents r) where
-  pub absent_answer : {F : Type 0} (fingerprint : F) (answer : Result (Stored F) Refusal) → answer ≡ new_answer s r fingerprint → answer ≡ put_answer s fits r fingerprint
-  absent_answer fingerprint answer e =
-      e
-      ∙ (λ i. cond (not (sym admitted i)) (Err (untold Shut)) (cond (sym idle i) (Err (untold MarkingOpen)) (cond (not (sym shaped i)) (Err (untold Shape))
-      (cond (is_other (absent i)) (Err (untold Collision)) (cond (is_absent (absent i) && is_nowhere (put_choice s r)) (Err (untold StoreFull))
-      (Ok (record { fingerprint = fingerprint; is_new = is_absent (absent i) })))))))
+module _ (s : State) (fits : Bool) (r : Rec) (idle : Ok tt ≡ tested (shut s ∷ busy s ∷ [])) where
+  abbrev pub answer_by : {F : Type 0} → F → Bool → Presence → Result (Stored F) Refusal
+  answer_by fingerprint b p =
+      cond (not b) (Err (untold Shape)) (cond (is_other p) (Err (untold Collision)) (cond (is_absent p && is_none (put_choice s r)) (Err (untold StoreFull))
+      (Ok (record { fingerprint = fingerprint; is_new = is_absent p }))))
 
-  pub absent_after : (t : State) → t ≡ after_new s r → t ≡ after_put s fits r
-  absent_after t e =
-      e
-      ∙ (λ i. cond (not (sym admitted i)) s (cond (sym idle i) s (cond (not (sym shaped i)) s (cond (is_other (absent i)) s
-      (cond (is_absent (absent i) && is_nowhere (put_choice s r)) s (cond (is_absent (absent i)) (settled_by s r) s))))))
+  abbrev pub after_by : Bool → Presence → State
+  after_by b p =
+      cond (not b) s (cond (is_other p) s (cond (is_absent p && is_none (put_choice s r)) s (cond (is_absent p) (settled_by s r) s)))
 
--- under a fingerprint that is another's equal
-pub renamed : {F : Type 0} (s : State) (fits : Bool) (level : ℕ) (bytes : F → List ℕ) (payload : List ℕ) (f f' : F) (answer : Result (Stored F) Refusal) (t : State) → f ≡ f' → answer ≡ put_answer s fits (record { level = level; fingerprint = bytes f; payload = payload }) f → t ≡ after_put s fits (record { level = level; fingerprint = bytes f; payload = payload }) → (answer ≡ put_answer s fits (record { level = level; fingerprint = bytes f'; payload = payload }) f') × (t ≡ after_put s fits (record { level = level; fingerprint = bytes f'; payload = payload }))
-renamed s fits level bytes payload f f' answer t e a b =
-    (a ∙ (λ i. put_answer s fits (record { level = level; fingerprint = bytes (e i); payload = payload }) (e i)), b ∙ (λ i. after_put s fits (record { level = level; fingerprint = bytes (e i); payload = payload })))
+  module _ (b : Bool) (p : Presence) (f : b ≡ fits) (e : p ≡ presence_of s.contents r) where
+    pub put_told : {F : Type 0} (fingerprint : F) (answer : Result (Stored F) Refusal) → answer ≡ answer_by fingerprint b p → answer ≡ put_answer s fits r fingerprint
+    put_told fingerprint answer a =
+        a ∙ (λ i. answer_by fingerprint (f i) (e i)) ∙ passed untold (shut s ∷ busy s ∷ []) tt tt (answer_by fingerprint fits (presence_of s.contents r)) idle
+
+    pub put_left : (t : State) → t ≡ after_by b p → t ≡ after_put s fits r
+    put_left t a =
+        a ∙ (λ i. after_by (f i) (e i)) ∙ passed_change untold (shut s ∷ busy s ∷ []) tt tt s (after_by fits (presence_of s.contents r)) idle

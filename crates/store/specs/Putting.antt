@@ -1,12 +1,11 @@
 -- Putting a record: each is stored a single time.
-use Rattle.std.specs.Prelude.{Bool, true, false, cond, not, ◌&&◌, List, [], ◌∷◌, Ok, Err, Result}
+use Rattle.std.specs.Prelude.{Bool, true, false, cond, not, ◌&&◌, List, [], ◌∷◌, Ok, Err, Option, Result, is_none}
 use Rattle.records.specs.Records.{Rec}
 use Rattle.records.specs.Refusals.{untold}
 use Rattle.records.specs.declared.refusal.Cause.TheVariants.{Shape, Collision, StoreFull}
 use Rattle.records.specs.declared.refusal.Refusal.{Refusal}
 use Rattle.placing.specs.Settling.{choice_for, settled_in, turned_to}
 use Rattle.placing.specs.declared.choosing.Choice.{Choice}
-use Rattle.placing.specs.declared.choosing.Choice.TheVariants.{Stays, Opens, NoPlace}
 use Rattle.presence.specs.Presences.{presence_of}
 use Rattle.presence.specs.declared.present.Presence.{Presence}
 use Rattle.presence.specs.declared.present.Presence.TheVariants.{Absent, Same, Other}
@@ -24,14 +23,9 @@ is_other Absent = false
 is_other Same = false
 is_other Other = true
 
-abbrev pub is_nowhere : Choice → Bool
-is_nowhere (Stays c) = false
-is_nowhere (Opens c) = false
-is_nowhere NoPlace = true
-
 module _ (s : State) (r : Rec) where
-  -- where a record that is not stored yet goes: a put leaves one container free
-  abbrev pub put_choice : Choice
+  -- where a record that is not stored yet goes, if anywhere: a put leaves one container free
+  abbrev pub put_choice : Option Choice
   put_choice = choice_for s.contents s.filling 1 r
 
   -- the store with the record where it goes
@@ -40,17 +34,17 @@ module _ (s : State) (r : Rec) where
 
   -- what is answered and left of a record that is not stored yet
   abbrev pub new_answer : {F : Type 0} → F → Result (Stored F) Refusal
-  new_answer fingerprint = cond (is_nowhere put_choice) (Err (untold StoreFull)) (Ok (record { fingerprint = fingerprint; is_new = true }))
+  new_answer fingerprint = cond (is_none put_choice) (Err (untold StoreFull)) (Ok (record { fingerprint = fingerprint; is_new = true }))
 
   abbrev pub after_new : State
-  after_new = cond (is_nowhere put_choice) s settled_by
+  after_new = cond (is_none put_choice) s settled_by
 
 -- the record r is put; `shaped` tells whether it has the shape that the call asks for
 module _ (s : State) (shaped : Bool) (r : Rec) where
   abbrev pub put_tests : List Test
   put_tests =
       shut s ∷ busy s ∷ (not shaped, Shape) ∷ (is_other (presence_of s.contents r), Collision)
-      ∷ (is_absent (presence_of s.contents r) && is_nowhere (put_choice s r), StoreFull) ∷ []
+      ∷ (is_absent (presence_of s.contents r) && is_none (put_choice s r), StoreFull) ∷ []
 
   -- the fingerprint, and whether it is new
   abbrev pub put_answer : {F : Type 0} → F → Result (Stored F) Refusal

@@ -1,5 +1,5 @@
 -- Reading a sheet: opening it, the next strip, and returning the token.
-use Rattle.std.specs.Prelude.{◌≡◌, ℕ, ◌+◌, ◌-◌, Bool, true, false, cond, not, ◌||◌, List, [], ◌∷◌, ◌++◌, length, drop, is_some, Some, None, Ok, Option, Result, ◌==◌, nat_le, nat_lt, slice_index_or, slice_set}
+use Rattle.std.specs.Prelude.{◌≡◌, ℕ, ◌+◌, ◌-◌, false, cond, not, ◌||◌, List, [], ◌∷◌, ◌++◌, length, drop, is_some, is_err, Some, None, Ok, Err, Option, Result, ◌==◌, nat_le, nat_lt, slice_index_or, slice_set}
 use Rattle.std.specs.List.{slice_get}
 use Rattle.records.specs.Records.{Rec, Contents}
 use Rattle.records.specs.Refusals.{untold}
@@ -10,14 +10,13 @@ use Rattle.records.specs.declared.refusal.Refusal.{Refusal}
 use Rattle.trees.specs.Holding.{if_some, standing}
 use Rattle.trees.specs.Reading.{rank_at}
 use Rattle.trees.specs.Trees.{Shaped, Whole, payload_of, text}
-use Rattle.walks.specs.Descents.{lead_of, position_after}
-use Rattle.walks.specs.declared.lead.Lead.{Lead}
-use Rattle.walks.specs.declared.lead.Lead.TheVariants.{Nowhere, TheEnd, Strip}
+use Rattle.walks.specs.Descents.{astray, lead_of, position_after}
+use Rattle.walks.specs.declared.astray.Astray.{Astray}
 use Rattle.catalogue.specs.Names.{nameable}
-use Rattle.catalogue.specs.Sheets.{Kept, kept_entry_of, readings_of, readings_out}
+use Rattle.catalogue.specs.Sheets.{Kept, readings_of, readings_out}
 use Rattle.store.specs.States.{State, keeping}
 use Rattle.store.specs.Refusing.{Test, refusing, unless, shut}
-use Rattle.store.specs.Keeping.{entry_in}
+use Rattle.store.specs.Keeping.{kept_at, entry_in}
 use Rattle.store.specs.declared.tokens.ReadToken.{ReadToken}
 
 -- a sheet with other readings out
@@ -35,35 +34,33 @@ out_at ks i = readings_of (slice_index_or ks i None)
 module _ (s : State) (name : List ℕ) where
   abbrev pub open_tests : List Test
   open_tests =
-      shut s ∷ (not (nameable name), BadName) ∷ (not (is_some (kept_entry_of name s.sheets)), NameNotKept)
+      shut s ∷ (not (nameable name), BadName) ∷ (not (is_some (kept_at s name)), NameNotKept)
       ∷ (nat_le 16 (readings_out s.sheets), TooManyTokens) ∷ []
 
   -- the entry of the sheet that is opened
   abbrev pub open_entry : Result ℕ Refusal
-  open_entry = refusing untold open_tests (Ok (entry_in (kept_entry_of name s.sheets)))
+  open_entry = refusing untold open_tests (Ok (entry_in (kept_at s name)))
 
   -- a token at the start of the sheet
   abbrev pub open_answer : Result ReadToken Refusal
-  open_answer = refusing untold open_tests (Ok (record { number = s.number; sheet = entry_in (kept_entry_of name s.sheets); position = 0 }))
+  open_answer = refusing untold open_tests (Ok (record { number = s.number; sheet = entry_in (kept_at s name); position = 0 }))
 
   abbrev pub after_open : State
-  after_open = unless open_tests s (keeping s (recounted (out_at s.sheets (entry_in (kept_entry_of name s.sheets)) + 1) s.sheets (entry_in (kept_entry_of name s.sheets))))
+  after_open = unless open_tests s (keeping s (recounted (out_at s.sheets (entry_in (kept_at s name)) + 1) s.sheets (entry_in (kept_at s name))))
 
 -- where a reading of a kept sheet stands: nowhere, where none is out
-abbrev pub lead_in : ℕ → State → ℕ → Option Kept → Lead
-lead_in w s position None = Nowhere
-lead_in w s position (Some k) = cond (k.readings == 0) Nowhere (lead_of w s.contents k.root position)
+abbrev pub lead_in : ℕ → State → ℕ → Option Kept → Result (Option Place) Astray
+lead_in w s position None = Err astray
+lead_in w s position (Some k) = cond (k.readings == 0) (Err astray) (lead_of w s.contents k.root position)
 
-abbrev pub is_nowhere : Lead → Bool
-is_nowhere Nowhere = true
-is_nowhere TheEnd = false
-is_nowhere (Strip x) = false
+-- the place of the strip that a position leads to; none at the end
+abbrev pub place_in : Result (Option Place) Astray → Option Place
+place_in (Err e) = None
+place_in (Ok o) = o
 
--- the payload of the strip that a position leads to; none at the end
-abbrev pub strip_bytes : State → Lead → Option (List ℕ)
-strip_bytes s Nowhere = None
-strip_bytes s TheEnd = None
-strip_bytes s (Strip x) = Some (payload_of (standing s.contents x))
+-- the payload of the strip at a place; none where there is no place
+abbrev pub strip_bytes : State → Option Place → Option (List ℕ)
+strip_bytes s o = if_some None (λ x. Some (payload_of (standing s.contents x))) o
 
 -- a token with a refusal
 abbrev pub handed_back : ReadToken → Cause → Refusal × ReadToken
@@ -75,20 +72,20 @@ give_buffer buffer strip = unless ((nat_lt (length buffer) (length strip), TooSh
 
 module _ (w : ℕ) (s : State) (token : ReadToken) where
   -- where the token's reading stands
-  abbrev pub lead_at : Lead
+  abbrev pub lead_at : Result (Option Place) Astray
   lead_at = lead_in w s token.position (slice_index_or s.sheets token.sheet None)
 
   -- the token is of another store, or of no reading that is out here
   abbrev pub token_tests : List Test
-  token_tests = shut s ∷ (not (token.number == s.number) || is_nowhere lead_at, WrongToken) ∷ []
+  token_tests = shut s ∷ (not (token.number == s.number) || is_err lead_at, WrongToken) ∷ []
 
-  -- where the reading stands, if the token is good
-  abbrev pub lead_answer : Result Lead Refusal
-  lead_answer = refusing untold token_tests (Ok lead_at)
+  -- the place of the strip that is due, if the token is good
+  abbrev pub place_answer : Result (Option Place) Refusal
+  place_answer = refusing untold token_tests (Ok (place_in lead_at))
 
   -- the strip that is due, if any
   abbrev pub due : Option (List ℕ)
-  due = strip_bytes s lead_at
+  due = strip_bytes s (place_in lead_at)
 
   -- the token moved on behind a strip
   abbrev pub moved_on : ReadToken
@@ -115,7 +112,7 @@ module _ (w : ℕ) (s : State) (token : ReadToken) where
 -- on a whole tree of shaped records the strip that is due is the one that the text has at the position's rank, and none is due at the end
 abbrev pub DueInText : ℕ → State → ReadToken → Type 0
 DueInText w s token =
-    (k : Kept) → slice_index_or s.sheets token.sheet None ≡ Some k → Shaped w s.contents → Whole w s.contents k.root → is_nowhere (lead_at w s token) ≡ false
+    (k : Kept) → slice_index_or s.sheets token.sheet None ≡ Some k → Shaped w s.contents → Whole w s.contents k.root → is_err (lead_at w s token) ≡ false
     → due w s token ≡ slice_get (text w s.contents k.root) (rank_at w s.contents k.root token.position)
 
 -- a record stands at a place

@@ -1,7 +1,9 @@
 -- The tests of a call: the first that applies decides.
-use Rattle.std.specs.Prelude.{Bool, cond, not, List, [], ◌∷◌, Err, Result}
+use Rattle.std.specs.Prelude.{Bool, cond, not, List, [], ◌∷◌, Ok, Err, Result}
+use Rattle.records.specs.Refusals.{untold}
 use Rattle.records.specs.declared.refusal.Cause.{Cause}
 use Rattle.records.specs.declared.refusal.Cause.TheVariants.{Shut, MarkingOpen}
+use Rattle.records.specs.declared.refusal.Refusal.{Refusal}
 use Rattle.store.specs.States.{State}
 
 -- whether a test applies, and the cause that it refuses with
@@ -24,3 +26,7 @@ shut s = (not s.admitted, Shut)
 
 abbrev pub busy : State → Test
 busy s = (s.marking, MarkingOpen)
+
+-- what those tests alone answer
+abbrev pub tested : List Test → Result (Unit {0}) Refusal
+tested ts = refusing untold ts (Ok tt)

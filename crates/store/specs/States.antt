@@ -17,9 +17,13 @@ pub record State : Type 0 where
   -- whether a marking is open
   pub marking : Bool
 
+-- no container is being filled or was opened, as while the store is shut
+abbrev pub none_filled : Filling
+none_filled = record { current = None; last = 0 }
+
 -- a store just made over a device: shut, and without sheets
 abbrev pub fresh : Contents → ℕ → State
-fresh cs n = record { contents = cs; number = n; admitted = false; filling = record { current = None; last = 0 }; sheets = replicate 64 None; marking = false }
+fresh cs n = record { contents = cs; number = n; admitted = false; filling = none_filled; sheets = replicate 64 None; marking = false }
 
 -- the same store with other records and another container being filled
 abbrev pub holding : State → Contents → Filling → State

@@ -3,14 +3,14 @@ ghost use Rattle.std.specs.Prelude.{◌≡◌, ◌*◌, ◌≤◌, [], length, r
 ghost use Rattle.slots.specs.declared.slot.Slot.TheVariants.{Empty};
 ghost use Rattle.trees.specs.Trees.{Whole};
 ghost use Rattle.store.specs.Model.{model};
-ghost use Rattle.store.specs.Keeping.{tree_answer, spelt, entry_answer, keep_answer, after_keep, keep_table, drop_entry, drop_answer, after_drop};
+ghost use Rattle.store.specs.Keeping.{tree_answer, spelt, entry_answer, keep_answer, after_keep, keep_table, named_entry, drop_entry, drop_answer, after_drop};
 
 use crate::state::Store;
 use catalogue::{Name, Sheet, is_nameable};
 use devices::Device;
 use records::{Cause, Refusal};
 use slots::Slot;
-use walks::{Finding, examine};
+use walks::examine;
 
 // Whether a table has fewer than 63 slots for each container.
 fn is_short(slots: usize, containers: usize) -> bool
@@ -29,11 +29,17 @@ fn examine_tree<D: Device>(
     ensures answer { result ≡ tree_answer D.Kind.Key.WIDE (D.contents device.now) (D.Kind.Key.bytes root) }
     ensures emptied { table.new ≡ replicate (length table.old) Empty }
 {
-    match examine(device, root, table) {
-        Finding::Whole => Ok(()),
-        Finding::NoRoot => Err(Refusal::from(Cause::NoRoot)),
-        Finding::Broken(_) => Err(Refusal::from(Cause::BrokenTree)),
-        Finding::TableFull => Err(Refusal::from(Cause::TooShort)),
+    Ok(examine(device, root, table)?)
+}
+
+// A sheet of which no reading is out.
+fn new_sheet<F>(name: Name, root: F) -> Sheet<F>
+    ensures { result ≡ record { name = name; root = root; readings = 0 } }
+{
+    Sheet {
+        name,
+        root,
+        readings: 0,
     }
 }
 
@@ -42,21 +48,12 @@ impl<D: Device> Store<D> {
     fn entry_for(&self, name: &[u8], slots: usize) -> Result<(usize, Name), Refusal>
         ensures { spelt result ≡ entry_answer D.Kind.Key.WIDE (model D.Device D.Kind.Key.bytes self.now) name.now [] slots }
     {
-        if !self.admitted {
-            return Err(Refusal::from(Cause::Shut));
-        }
-        if self.marking {
-            return Err(Refusal::from(Cause::MarkingOpen));
-        }
-        let Some(kept) = Name::of(name) else {
-            return Err(Refusal::from(Cause::BadName));
-        };
-        if let Some(_) = self.catalogue.entry_of(name) {
+        self.check_idle()?;
+        let kept = Name::of(name).ok_or(Cause::BadName)?;
+        if self.catalogue.entry_of(name).is_some() {
             return Err(Refusal::from(Cause::NameKept));
         }
-        let Some(entry) = self.catalogue.vacant_entry() else {
-            return Err(Refusal::from(Cause::TooManySheets));
-        };
+        let entry = self.catalogue.vacant_entry().ok_or(Cause::TooManySheets)?;
         if is_short(slots, self.device.count()) {
             return Err(Refusal::from(Cause::TooShort));
         }
@@ -75,40 +72,30 @@ impl<D: Device> Store<D> {
         ensures table { table.new ≡ keep_table (model D.Device D.Kind.Key.bytes self.old) name.now table.old }
         ensures whole { result ≡ Ok tt → Whole D.Kind.Key.WIDE (D.Device.contents self.old.device) (D.Kind.Key.bytes root) }
     {
-        let (entry, name) = match self.entry_for(name, table.len()) {
-            Ok(found) => found,
-            Err(refusal) => return Err(refusal),
-        };
-        match examine_tree(&self.device, root, table) {
-            Ok(()) => {
-                let sheet = Sheet {
-                    name,
-                    root,
-                    readings: 0,
-                };
-                self.catalogue.put(entry, Some(sheet));
-                Ok(())
-            }
-            Err(refusal) => Err(refusal),
+        let (entry, name) = self.entry_for(name, table.len())?;
+        examine_tree(&self.device, root, table)?;
+        self.catalogue.put(entry, Some(new_sheet(name, root)));
+        Ok(())
+    }
+
+    // The entry of the sheet of a name.
+    pub(crate) fn entry_of(&self, name: &[u8]) -> Result<usize, Refusal>
+        ensures { result ≡ named_entry (model D.Device D.Kind.Key.bytes self.now) name.now }
+    {
+        if !is_nameable(name) {
+            return Err(Refusal::from(Cause::BadName));
         }
+        self.catalogue
+            .entry_of(name)
+            .ok_or(Refusal::from(Cause::NameNotKept))
     }
 
     // The entry of a sheet that may be dropped.
     fn entry_to_drop(&self, name: &[u8]) -> Result<usize, Refusal>
         ensures { result ≡ drop_entry (model D.Device D.Kind.Key.bytes self.now) name.now }
     {
-        if !self.admitted {
-            return Err(Refusal::from(Cause::Shut));
-        }
-        if self.marking {
-            return Err(Refusal::from(Cause::MarkingOpen));
-        }
-        if !is_nameable(name) {
-            return Err(Refusal::from(Cause::BadName));
-        }
-        let Some(entry) = self.catalogue.entry_of(name) else {
-            return Err(Refusal::from(Cause::NameNotKept));
-        };
+        self.check_idle()?;
+        let entry = self.entry_of(name)?;
         if self.catalogue.readings(entry) != 0 {
             return Err(Refusal::from(Cause::SheetInUse));
         }
@@ -120,12 +107,8 @@ impl<D: Device> Store<D> {
         ensures answer { result ≡ drop_answer (model D.Device D.Kind.Key.bytes self.old) name.now }
         ensures after { model D.Device D.Kind.Key.bytes self.new ≡ after_drop (model D.Device D.Kind.Key.bytes self.old) name.now }
     {
-        match self.entry_to_drop(name) {
-            Ok(entry) => {
-                self.catalogue.put(entry, None);
-                Ok(())
-            }
-            Err(refusal) => Err(refusal),
-        }
+        let entry = self.entry_to_drop(name)?;
+        self.catalogue.put(entry, None);
+        Ok(())
     }
 }

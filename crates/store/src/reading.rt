@@ -1,17 +1,17 @@
 // Reading sheets: opening them, the next strip, and returning the token.
-ghost use Rattle.std.specs.Prelude.{◌≡◌, ◌+◌, ◌-◌, length, None};
+ghost use Rattle.std.specs.Prelude.{◌≡◌, ◌+◌, ◌-◌, length};
 ghost use Rattle.trees.specs.Holding.{standing};
 ghost use Rattle.trees.specs.Trees.{payload_of};
 ghost use Rattle.store.specs.Model.{model};
 ghost use Rattle.store.specs.States.{keeping};
-ghost use Rattle.store.specs.Readings.{recounted, open_entry, open_answer, after_open, lead_at, lead_answer, moved_on, give_answer, give_buffer, next_answer, next_buffer, DueInText, Stands, return_answer, after_return};
+ghost use Rattle.store.specs.Readings.{recounted, open_entry, open_answer, after_open, lead_at, place_answer, moved_on, give_answer, give_buffer, next_answer, next_buffer, DueInText, Stands, return_answer, after_return};
 
 use crate::state::Store;
 use crate::tokens::ReadToken;
-use catalogue::{Sheet, is_nameable};
+use catalogue::Sheet;
 use devices::Device;
 use records::{Cause, Place, Refusal};
-use walks::{Lead, leads_to, position_after};
+use walks::{Astray, leads_to, position_after};
 
 impl<D: Device> Store<D> {
     // Counts the readings of the sheet at an entry anew.
@@ -20,9 +20,8 @@ impl<D: Device> Store<D> {
     {
         if let Some(sheet) = self.catalogue.sheet(entry) {
             let counted = Sheet {
-                name: sheet.name,
-                root: sheet.root,
                 readings: usize::from(readings),
+                ..sheet
             };
             self.catalogue.put(entry, Some(counted));
         }
@@ -32,19 +31,23 @@ impl<D: Device> Store<D> {
     fn entry_to_open(&self, name: &[u8]) -> Result<usize, Refusal>
         ensures { result ≡ open_entry (model D.Device D.Kind.Key.bytes self.now) name.now }
     {
-        if !self.admitted {
-            return Err(Refusal::from(Cause::Shut));
-        }
-        if !is_nameable(name) {
-            return Err(Refusal::from(Cause::BadName));
-        }
-        let Some(entry) = self.catalogue.entry_of(name) else {
-            return Err(Refusal::from(Cause::NameNotKept));
-        };
+        self.check_admitted()?;
+        let entry = self.entry_of(name)?;
         if self.catalogue.readings_out() >= 16 {
             return Err(Refusal::from(Cause::TooManyTokens));
         }
         Ok(entry)
+    }
+
+    // A token at the start of the sheet at an entry.
+    fn token_at_start(&self, entry: usize) -> ReadToken
+        ensures { result ≡ record { number = self.now.number; sheet = entry; position = 0 } }
+    {
+        ReadToken {
+            number: self.number,
+            sheet: entry,
+            position: 0,
+        }
     }
 
     // Opens the sheet of a name: a token at its start.
@@ -52,72 +55,44 @@ impl<D: Device> Store<D> {
         ensures answer { result ≡ open_answer (model D.Device D.Kind.Key.bytes self.old) name.now }
         ensures after { model D.Device D.Kind.Key.bytes self.new ≡ after_open (model D.Device D.Kind.Key.bytes self.old) name.now }
     {
-        match self.entry_to_open(name) {
-            Ok(entry) => {
-                let token = ReadToken {
-                    number: self.number,
-                    sheet: entry,
-                    position: 0,
-                };
-                let readings = self.catalogue.readings(entry);
-                self.recount(entry, readings + 1);
-                Ok(token)
-            }
-            Err(refusal) => Err(refusal),
-        }
+        let entry = self.entry_to_open(name)?;
+        let readings = self.catalogue.readings(entry);
+        self.recount(entry, readings + 1);
+        Ok(self.token_at_start(entry))
     }
 
     // Where the reading of a token stands.
-    fn lead(&self, token: &ReadToken) -> Lead
+    fn lead(&self, token: &ReadToken) -> Result<Option<Place>, Astray>
         ensures { result ≡ lead_at D.Kind.Key.WIDE (model D.Device D.Kind.Key.bytes self.now) token.now }
     {
-        match self.catalogue.sheet(token.sheet) {
-            None => Lead::Nowhere,
-            Some(sheet) => {
-                if sheet.readings == 0 {
-                    Lead::Nowhere
-                } else {
-                    leads_to(&self.device, sheet.root, token.position)
-                }
-            }
-        }
+        let sheet = self
+            .catalogue
+            .sheet(token.sheet)
+            .filter(|sheet| sheet.readings != 0)
+            .ok_or(Astray)?;
+        leads_to(&self.device, sheet.root, token.position)
     }
 
-    // Where the reading of a token stands, if the token is one of a reading that is out here.
-    fn lead_of(&self, token: &ReadToken) -> Result<Lead, Refusal>
-        ensures { result ≡ lead_answer D.Kind.Key.WIDE (model D.Device D.Kind.Key.bytes self.now) token.now }
+    // The place of the strip that a token's next reading gives, or none at the end, if the token is one of a reading that is out here.
+    fn place_due(&self, token: &ReadToken) -> Result<Option<Place>, Refusal>
+        ensures { result ≡ place_answer D.Kind.Key.WIDE (model D.Device D.Kind.Key.bytes self.now) token.now }
     {
-        if !self.admitted {
-            return Err(Refusal::from(Cause::Shut));
-        }
+        self.check_admitted()?;
         if token.number != self.number {
             return Err(Refusal::from(Cause::WrongToken));
         }
-        match self.lead(token) {
-            Lead::Nowhere => Err(Refusal::from(Cause::WrongToken)),
-            Lead::TheEnd => Ok(Lead::TheEnd),
-            Lead::Strip(place) => Ok(Lead::Strip(place)),
-        }
+        self.lead(token)
+            .map_err(|_| Refusal::from(Cause::WrongToken))
     }
 
     // The token behind the strip that it stands at.
-    fn moved_on(&self, token: ReadToken) -> ReadToken
+    fn moved_on(&self, mut token: ReadToken) -> ReadToken
         ensures { result ≡ moved_on D.Kind.Key.WIDE (model D.Device D.Kind.Key.bytes self.now) token }
     {
-        let ReadToken {
-            number,
-            sheet,
-            position,
-        } = token;
-        let position = match self.catalogue.sheet(sheet) {
-            None => position,
-            Some(kept) => position_after(&self.device, kept.root, position),
-        };
-        ReadToken {
-            number,
-            sheet,
-            position,
+        if let Some(kept) = self.catalogue.sheet(token.sheet) {
+            token.position = position_after(&self.device, kept.root, token.position);
         }
+        token
     }
 
     // Gives the strip at a place where a record stands.
@@ -131,6 +106,7 @@ impl<D: Device> Store<D> {
         ensures answer { result ≡ give_answer D.Kind.Key.WIDE (model D.Device D.Kind.Key.bytes self.now) token (length buffer.old) (payload_of (standing (D.Device.contents self.now.device) place)) }
         ensures buffer { buffer.new ≡ give_buffer buffer.old (payload_of (standing (D.Device.contents self.now.device) place)) }
     {
+        // A match, since the closures of `map` and `map_err` would each take the token.
         match self.device.payload(place, buffer) {
             Ok(len) => Ok((self.moved_on(token), Some(len))),
             Err(refusal) => Err((refusal, token)),
@@ -147,13 +123,11 @@ impl<D: Device> Store<D> {
         ensures buffer { buffer.new ≡ next_buffer D.Kind.Key.WIDE (model D.Device D.Kind.Key.bytes self.now) token buffer.old }
         ensures text { DueInText D.Kind.Key.WIDE (model D.Device D.Kind.Key.bytes self.now) token }
     {
-        match self.lead_of(&token) {
+        // A match, since a closure that puts the token to a refusal for `?` would take it from what follows.
+        match self.place_due(&token) {
+            Ok(Some(place)) => self.give(token, place, buffer),
+            Ok(None) => Ok((token, None)),
             Err(refusal) => Err((refusal, token)),
-            Ok(lead) => match lead {
-                Lead::Nowhere => Ok((token, None)),
-                Lead::TheEnd => Ok((token, None)),
-                Lead::Strip(place) => self.give(token, place, buffer),
-            },
         }
     }
 
@@ -162,18 +136,17 @@ impl<D: Device> Store<D> {
         ensures answer { result ≡ return_answer D.Kind.Key.WIDE (model D.Device D.Kind.Key.bytes self.old) token }
         ensures after { model D.Device D.Kind.Key.bytes self.new ≡ after_return D.Kind.Key.WIDE (model D.Device D.Kind.Key.bytes self.old) token }
     {
-        match self.lead_of(&token) {
-            Err(refusal) => Err((refusal, token)),
-            Ok(_) => {
-                let ReadToken {
-                    number: _,
-                    sheet,
-                    position: _,
-                } = token;
-                let readings = self.catalogue.readings(sheet);
-                self.recount(sheet, readings.saturating_sub(1));
-                Ok(())
-            }
+        if let Err(refusal) = self.place_due(&token) {
+            return Err((refusal, token));
         }
+        // Each field is named, since `..` doesn't take apart what can't be let go.
+        let ReadToken {
+            number: _,
+            sheet,
+            position: _,
+        } = token;
+        let readings = self.catalogue.readings(sheet);
+        self.recount(sheet, readings.saturating_sub(1));
+        Ok(())
     }
 }

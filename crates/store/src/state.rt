@@ -7,8 +7,8 @@ pub struct Store<D: Device> {
     pub(crate) device: D,
     // Tells its tokens from those of other stores.
     pub(crate) number: u32,
-    pub(crate) admitted: bool,
-    pub(crate) filling: Filling,
+    // Which container takes new records; none while the store is shut.
+    pub(crate) filling: Option<Filling>,
     pub(crate) catalogue: Catalogue<D::Kind>,
     // Whether a marking is open.
     pub(crate) marking: bool,

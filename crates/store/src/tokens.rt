@@ -9,7 +9,7 @@ pub struct ReadToken {
 }
 
 // A record that was put: its fingerprint, and whether it was not stored before.
-#[derive(Clone, Copy)]
+#[derive(Clone, Copy, Debug, PartialEq, Eq)]
 pub struct Stored<F> {
     pub fingerprint: F,
     pub is_new: bool,
