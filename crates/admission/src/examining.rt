@@ -20,6 +20,7 @@ where
     ensures { (judge : Place → Rec → Option Cause) → Judges judge (D.Device.contents device.now) (F.post test.now) → result ≡ answer_by (refused_among judge container 0 (records_of (D.Device.contents device.now) container)) }
 {
     let count = device.records(container)?;
+    // By number: a device is asked by place, and the first refusal ends it.
     for index in 0..count {
         let place = Place { container, index };
         if let Some(cause) = test(place)? {
@@ -37,6 +38,7 @@ where
     requires { F.IsAlwaysCallable test }
     ensures { (judge : Place → Rec → Option Cause) → Judges judge (D.Device.contents device.now) (F.post test) → result ≡ answer_by (refused_from judge 0 (D.Device.contents device.now)) }
 {
+    // `try_for_each` would put a closure round the closure.
     for container in 0..device.count() {
         examine_container(device, container, &test)?;
     }

@@ -1,4 +1,4 @@
-// The catalogue: 64 entries, each empty or with a sheet.
+// The catalogue: 64 entries, each empty or with a sheet, in an array, since no call of a store may allocate.
 ghost use Rattle.std.specs.Prelude.{◌≡◌, All, length};
 ghost use Rattle.catalogue.specs.Sheets.{Counted};
 

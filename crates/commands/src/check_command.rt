@@ -41,6 +41,7 @@ fn list_container<F: Fingerprint>(
         return Ok(());
     };
     println!(rt; "container {container}: {records} records, {bytes} payload bytes")?;
+    // By number: a device is asked by place.
     for index in 0..records {
         list_record(rt, file, Place { container, index })?;
     }

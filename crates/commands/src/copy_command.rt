@@ -60,7 +60,7 @@ pub fn copy_file<F: Fingerprint>(
     Ok(copy)
 }
 
-// How many records and payload bytes a device has.
+// How many records and payload bytes a device has: two sums in one pass over its containers.
 fn totals<D: Device>(device: &D) -> (usize, usize) {
     let mut records = 0usize;
     let mut bytes = 0usize;

@@ -12,6 +12,7 @@ use std::io;
 // All records' places, container by container.
 pub fn places(heap: Global, file: &ContainerFile<Fnv>) -> Result<Vec<Place>, AllocError> {
     let mut all = Vec::new(heap);
+    // By number, and into one Vec: a chain of chains that may run out of memory would be no plainer.
     for container in 0..file.count() {
         for index in 0..file.records(container).unwrap_or(0) {
             all.push(Place { container, index })?;

@@ -20,7 +20,8 @@ pub trait Key: Copy + Eq {
     fn read(from: &[u8]) -> Option<Self>
         ensures { result ≡ (if leb WIDE (length from.now) then Some (key (take WIDE from.now)) else None) };
 
-    // Writes the key's bytes to the front of `to` if they fit, and tells whether they do.
+    // Writes the key's bytes to the front of `to` if they fit, and tells whether they do. A bool: a buffer that is too short is
+    // no error here, and a caller whose buffer fits has nothing to handle.
     fn write(self, to: &mut [u8]) -> bool
         ensures fits { result ≡ nat_le WIDE (length to.old) }
         ensures after { to.new ≡ (if result then bytes self ++ drop WIDE to.old else to.old) };

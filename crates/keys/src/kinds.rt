@@ -18,6 +18,7 @@ use crate::pair::Pair;
 fn hash_key<K: Key>(first: u8, key: K) -> u64
     ensures { result ≡ fnv1a (first ∷ K.Key.bytes key) }
 {
+    // No key is wider, and nothing here allocates.
     let mut buffer = [0u8; 20];
     let _ = key.write(&mut buffer);
     hash_behind(first, &buffer[..K::WIDE])

@@ -17,7 +17,8 @@ pub trait LiveSet<K: Key> {
     fn start(&mut self)
         ensures effect { Started meaning self.old self.new };
 
-    // Covers the key too; refused when it is sealed or has learned as many keys as it can.
+    // Covers the key too; refused when it is sealed or has learned as many keys as it can. A bool, as the insert of a set
+    // answers: there is one refusal, with nothing to tell of it.
     fn learn(&mut self, key: K) -> bool
         ensures effect { Learned meaning self.old key result self.new };
 

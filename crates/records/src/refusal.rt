@@ -97,7 +97,7 @@ pub struct Place {
     pub index: usize,
 }
 
-// A refusal: its cause, and the place it tells of, which is 0 and 0 where it tells of none.
+// A refusal: its cause, and the place it tells of, which is 0 and 0 where it tells of none, since callers are told two numbers in any case.
 #[derive(Clone, Copy, Debug, PartialEq, Eq)]
 pub struct Refusal {
     pub cause: Cause,

@@ -1,4 +1,4 @@
-// The command girvoupa copy, as the gate runs it.
+// The command girvoupa copy, as the gate runs it: once for each program, with its one list of arguments, so each command that is tried has a main of its own.
 #![tactic(auto)]
 
 fn main(rt: HostRuntime) -> anyhow::Result<()> {

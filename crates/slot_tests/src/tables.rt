@@ -24,7 +24,7 @@ fn insert_all<K: Key>(slots: &mut [Slot<K>], keys: &[K]) -> u64 {
     digits
 }
 
-// Looks the keys up, and writes the answers as binary digits, the first key's first.
+// Looks the keys up (the crate of the sets' tests has the same over a closure; tests share no crate), and writes the answers as binary digits, the first key's first.
 fn look_up_all<K: Key>(slots: &[Slot<K>], count: usize, keys: &[K]) -> u64 {
     let mut digits = 0u64;
     for key in keys {
@@ -119,7 +119,7 @@ fn damaged(digit: u32) -> Slot<Pair> {
     }
 }
 
-// A plain walk of its own, from a home that is told.
+// A plain walk of its own, from a home that is told. It steps by index, so that it shares nothing with the walk that it checks.
 fn plain_walk(slots: &[Slot<Pair>; 3], home: usize, key: Pair) -> bool {
     for step in 0..3usize {
         let met = slots[(home % 3 + step) % 3].key();

@@ -3,6 +3,7 @@ ghost use Rattle.std.specs.Prelude.{◌≡◌};
 ghost use Rattle.slots.specs.Walks.{key_of};
 ghost use Rattle.slots.specs.Marks.{is_marked, plain};
 
+// Three cases, and a mark only where there is a key: an Option of a key beside a flag would be no plainer.
 #[derive(Clone, Copy, Debug, PartialEq, Eq)]
 pub enum Slot<K> {
     Empty,

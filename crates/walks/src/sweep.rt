@@ -110,6 +110,7 @@ impl<'a, D: Device> Nodes<'a, D> {
     fn visit_container(&self, container: usize, table: &mut [Slot<D::Kind>]) -> Result<(), Flaw>
         ensures { (done : List (List ℕ)) → Moves D.Kind.Key.bytes D.Kind.Key.WIDE (D.contents self.now.device.now) self.now.level done (keys_of table.old) self.now.level (map (λ x. x.fingerprint) (records_of (D.contents self.now.device.now) container) ++ done) (keys_of table.new) result }
     {
+        // By number: a device is asked by place.
         for index in 0..self.device.records(container).unwrap_or(0) {
             let Ok(node) = self.device.fingerprint(Place { container, index }) else {
                 continue;
