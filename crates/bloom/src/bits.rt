@@ -10,8 +10,8 @@ pub const MOST_BYTES: usize = 65536;
 // How many bits a key has.
 const BITS: u8 = 4;
 
-#[tactic(auto, unfolding(crate::specs::Bits::used))]
 // How many of the bytes serve.
+#[tactic(auto, unfolding(crate::specs::Bits::used))]
 fn used_bytes(bytes: &[u8]) -> usize
     ensures value { result ≡ used bytes.now }
     ensures bound { (result ≤ length bytes.now) × (result ≤ 65536) }
@@ -19,8 +19,8 @@ fn used_bytes(bytes: &[u8]) -> usize
     bytes.len().min(MOST_BYTES)
 }
 
-#[tactic(auto, unfolding(crate::specs::Bits::place))]
 // The place of the key's bit under this seed, over so many bytes.
+#[tactic(auto, unfolding(crate::specs::Bits::place))]
 fn bit_place<K: Key>(key: K, long: usize, seed: u8) -> usize
     requires { (0 < long) × (long ≤ 65536) }
     ensures at { result ≡ place (K.Key.bytes key) long seed }

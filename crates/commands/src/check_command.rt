@@ -54,6 +54,7 @@ pub fn list<F: Fingerprint>(rt: &impl Print, bytes: Vec<u8>) -> io::Result<()> {
         Ok(count) => {
             println!(rt; "{count} containers")?;
             let file = ContainerFile::<F>::over(bytes);
+            // By number: a device is asked by place.
             for container in 0..count {
                 list_container(rt, &file, container)?;
             }

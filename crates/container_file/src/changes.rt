@@ -38,6 +38,7 @@ fn put_key<K: Key>(bytes: &mut Vec<u8>, at: usize, key: K)
     ensures len { length bytes.new.items ≡ length bytes.old.items }
     ensures after { bytes.new.items ≡ written at (K.bytes key) bytes.old.items }
 {
+    // It fits, so the answer says nothing new.
     let _ = key.write(&mut bytes[at..]);
 }
 
@@ -47,6 +48,7 @@ fn entry_tail(level: u8, len: usize, offset: usize) -> [u8; 8]
     requires offset { offset < 2 ^ 32 }
     ensures { result ≡ level ∷ 0 ∷ (little 2 len ++ little 4 offset) }
 {
+    // Casts that lose nothing, as the contract has it: `try_from` would bring an error that never is.
     let [a, b] = (len as u16).to_le_bytes();
     let [c, d, e, f] = (offset as u32).to_le_bytes();
     [level, 0, a, b, c, d, e, f]

@@ -51,7 +51,7 @@ impl<F: Fingerprint> Device for ContainerFile<F> {
         let part = self.part(place)?;
         let len = part.len();
         if to.len() < len {
-            return Err(Cause::TooShort.into());
+            return Err(Refusal::from(Cause::TooShort));
         }
         copy(&mut to[..len], part);
         Ok(len)
@@ -69,10 +69,10 @@ impl<F: Fingerprint> Device for ContainerFile<F> {
         let header = self.header(container).ok_or(Cause::NoSuchPlace)?;
         let len = added.payload.len();
         if !is_storable(added.level, len) {
-            return Err(Cause::Shape.into());
+            return Err(Refusal::from(Cause::Shape));
         }
         if !joins(header.records, header.used, len) {
-            return Err(Cause::ContainerFull.into());
+            return Err(Refusal::from(Cause::ContainerFull));
         }
         self.write_record(header, added);
         Ok(())

@@ -49,7 +49,7 @@ impl<F: Fingerprint> ContainerFile<F> {
         ensures { LaidOut F.Key.WIDE count bytes result }
     {
         if !has_length::<F>(bytes.len(), count) {
-            return Err((Cause::Size.into(), bytes));
+            return Err((Refusal::from(Cause::Size), bytes));
         }
         bytes.fill(0);
         Ok(Self::of(bytes, count))

@@ -95,10 +95,10 @@ pub fn check<F: Fingerprint>(bytes: &[u8]) -> Result<usize, Refusal>
 {
     let count = bytes.len() / container_size::<F>();
     if !has_length::<F>(bytes.len(), count) {
-        return Err(Cause::Size.into());
+        return Err(Refusal::from(Cause::Size));
     }
     if !containers_in_order::<F>(bytes, count) {
-        return Err(Cause::Layout.into());
+        return Err(Refusal::from(Cause::Layout));
     }
     Ok(count)
 }

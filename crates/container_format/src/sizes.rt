@@ -8,10 +8,10 @@ use keys::{Fingerprint, Key};
 // The bytes of a container's header.
 pub const HEADER: usize = 16;
 
-// How many entries a container has, full or free.
+// How many entries a container has, full or free: the layout's own number, whatever a container may hold.
 pub const RECORDS: usize = 63;
 
-// The bytes of a container's body, which has the payloads.
+// The bytes of a container's body, which has the payloads: the layout's own number too.
 pub const BODY: usize = 7168;
 
 // How many bytes an entry takes.

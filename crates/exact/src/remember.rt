@@ -15,6 +15,7 @@ pub fn learn_all<K: Key>(set: &mut ExactTable<K>, keys: &[K])
 {
     set.start();
     for key in keys {
+        // A key too many is refused, and left out.
         let _ = set.learn(*key);
     }
 }

@@ -21,6 +21,7 @@ fn with_two_marks(heap: Global, long: usize) -> Result<BloomFilter, Fail> {
 fn weighed(filter: BloomFilter) -> u64 {
     let bytes = filter.into_bytes();
     let mut sum = 0u64;
+    // A loop, since a chain would have to prove its arithmetic in a closure.
     for (i, byte) in bytes.iter().enumerate() {
         sum = sum.wrapping_add((i as u64).wrapping_add(1).wrapping_mul(u64::from(*byte)));
     }
@@ -30,6 +31,7 @@ fn weighed(filter: BloomFilter) -> u64 {
 // What the filter says of the numbers 0 to 63, as binary digits, the last number's first.
 fn says_of(filter: &BloomFilter) -> u64 {
     let mut digits = 0u64;
+    // A loop, since a shift in a closure would not know that it is below 64.
     for n in 0..64u64 {
         digits |= u64::from(filter.says(Fnv { number: n })) << n;
     }

@@ -19,11 +19,7 @@ pub fn mix_byte(sum: u64, byte: u8) -> u64
 pub fn mix_bytes(start: u64, bytes: &[u8]) -> u64
     ensures { result ≡ mixed_all start bytes.now }
 {
-    let mut sum = start;
-    for byte in bytes {
-        sum = mix_byte(sum, *byte);
-    }
-    sum
+    bytes.iter().fold(start, |sum, byte| mix_byte(sum, *byte))
 }
 
 // The hash of some bytes.

@@ -118,6 +118,7 @@ impl Key for Fnv {
     ghost same = { λ a b. same-little 8 a.number b.number a.fits b.fits };
 
     fn read(from: &[u8]) -> Option<Fnv> {
+        // By a slice pattern, eight bytes and the rest: `first_chunk` leaves the proof open.
         match from {
             [a, b, c, d, e, f, g, h, ..] => {
                 let number = u64::from_le_bytes([*a, *b, *c, *d, *e, *f, *g, *h]);

@@ -25,6 +25,7 @@ pub fn store_record<D: Device>(
     }
     let choice = choose(device, *filling, spare, len)?;
     let (Choice::Stays(container) | Choice::Opens(container)) = choice;
+    // The container was chosen to take it, so it is not refused.
     let _ = device.append(container, added);
     if let Choice::Opens(container) = choice {
         *filling = Filling {

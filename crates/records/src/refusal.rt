@@ -2,8 +2,8 @@
 ghost use Rattle.std.specs.Prelude.{◌≡◌};
 ghost use Rattle.records.specs.Refusals.{number_of, untold, told_at};
 
-use std::error::Error;
 use std::fmt;
+use thiserror::Error;
 
 // Every reason for a refusal, with the number that callers are told.
 #[derive(Clone, Copy, Debug, PartialEq, Eq, Hash)]
@@ -44,7 +44,7 @@ impl Cause {
         self as u8
     }
 
-    // What the refusal means, in a line for people.
+    // What the refusal means, in a line for people. A derived Display could print it, and not hand it out.
     pub fn meaning(self) -> &'static str {
         match self {
             Cause::Size =>
@@ -88,7 +88,7 @@ impl fmt::Display for Cause {
     }
 }
 
-impl Error for Cause {}
+impl std::error::Error for Cause {}
 
 // A record's container and its index there; places are in rising container and record order.
 #[derive(Clone, Copy, Debug, Default, PartialEq, Eq, PartialOrd, Ord, Hash)]
@@ -98,7 +98,8 @@ pub struct Place {
 }
 
 // A refusal: its cause, and the place it tells of, which is 0 and 0 where it tells of none, since callers are told two numbers in any case.
-#[derive(Clone, Copy, Debug, PartialEq, Eq)]
+#[derive(Clone, Copy, Debug, PartialEq, Eq, Error)]
+#[error("refused {}: {}", .cause.number(), .cause)]
 pub struct Refusal {
     pub cause: Cause,
     pub place: Place,
@@ -124,13 +125,3 @@ impl From<Cause> for Refusal {
         }
     }
 }
-
-impl fmt::Display for Refusal {
-    fn fmt<W: fmt::Write>(&self, f: &mut fmt::Formatter<W>) -> fmt::Result {
-        let number = self.cause.number();
-        let cause = self.cause;
-        write!(f, "refused {number}: {cause}")
-    }
-}
-
-impl Error for Refusal {}

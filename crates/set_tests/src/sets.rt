@@ -7,10 +7,6 @@ use live::{LiveSet, OneOf};
 use slots::Slot;
 use std::test::Fail;
 
-fn fnv(number: u64) -> Fnv {
-    Fnv::from(number)
-}
-
 // What is answered to each key, as binary digits, the first key's first.
 fn digits<K: Copy, F: FnMut(K) -> bool>(keys: &[K], mut answer: F) -> u64
     requires { F.IsAlwaysCallable answer }
@@ -42,16 +38,22 @@ fn says_of<K: Key, L: LiveSet<K>>(set: &L, keys: &[K]) -> u64 {
 #[test]
 fn marked_keys_alone(rt: HostRuntime) -> Result<(), Fail> {
     let mut set = ExactTable::over(vec![in rt.alloc(); Slot::Empty; 4]?);
-    let keys = [fnv(5), fnv(6), fnv(5), fnv(7), fnv(8)];
+    let keys = [
+        Fnv::from(5),
+        Fnv::from(6),
+        Fnv::from(5),
+        Fnv::from(7),
+        Fnv::from(8),
+    ];
     assert_eq!(rt; set.capacity(), 4);
     assert_eq!(rt; learn_each(&mut set, &keys), 0b11110);
-    mark_each(&mut set, &[fnv(5)]);
+    mark_each(&mut set, &[Fnv::from(5)]);
     assert_eq!(rt; says_of(&set, &keys), 0b11111);
     set.seal();
     assert_eq!(rt; says_of(&set, &keys), 0);
-    mark_each(&mut set, &[fnv(8), fnv(5)]);
+    mark_each(&mut set, &[Fnv::from(8), Fnv::from(5)]);
     assert_eq!(rt; says_of(&set, &keys), 0b10100);
-    assert!(rt; !set.learn(fnv(6)));
+    assert!(rt; !set.learn(Fnv::from(6)));
     Ok(())
 }
 
@@ -92,9 +94,9 @@ fn sealed_again_and_started_again(rt: HostRuntime) -> Result<(), Fail> {
 
 #[test]
 fn remembers_what_is_in_both_lists(rt: HostRuntime) -> Result<(), Fail> {
-    let learned = [fnv(1), fnv(2), fnv(3)];
-    let marked = [fnv(4), fnv(3), fnv(2)];
-    let asked = [fnv(1), fnv(2), fnv(3), fnv(4)];
+    let learned = [Fnv::from(1), Fnv::from(2), Fnv::from(3)];
+    let marked = [Fnv::from(4), Fnv::from(3), Fnv::from(2)];
+    let asked = [Fnv::from(1), Fnv::from(2), Fnv::from(3), Fnv::from(4)];
     let set = remember(vec![in rt.alloc(); Slot::Empty; 7]?, &learned, &marked);
     assert_eq!(rt; says_of(&set, &asked), 0b0110);
     let short = remember(vec![in rt.alloc(); Slot::Empty; 2]?, &learned, &marked);
@@ -106,7 +108,7 @@ fn remembers_what_is_in_both_lists(rt: HostRuntime) -> Result<(), Fail> {
 
 #[test]
 fn one_of_two(rt: HostRuntime) -> Result<(), Fail> {
-    let keys = [fnv(1), fnv(2), fnv(3), fnv(57)];
+    let keys = [Fnv::from(1), Fnv::from(2), Fnv::from(3), Fnv::from(57)];
     let exact = ExactTable::over(vec![in rt.alloc(); Slot::Empty; 3]?);
     let mut first: OneOf<ExactTable<Fnv>, BloomFilter> = OneOf::First(exact);
     assert_eq!(rt; learn_each(&mut first, &keys), 0b1110);
@@ -117,7 +119,7 @@ fn one_of_two(rt: HostRuntime) -> Result<(), Fail> {
     let mut second: OneOf<ExactTable<Fnv>, BloomFilter> = OneOf::Second(filter);
     assert_eq!(rt; learn_each(&mut second, &keys), 0b1111);
     second.seal();
-    mark_each(&mut second, &[fnv(1), fnv(2), fnv(3)]);
+    mark_each(&mut second, &[Fnv::from(1), Fnv::from(2), Fnv::from(3)]);
     assert_eq!(rt; says_of(&second, &keys), 0b1111);
     Ok(())
 }

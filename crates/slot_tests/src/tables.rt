@@ -6,10 +6,6 @@ const fn pair(level: u8, container: u8) -> Pair {
     Pair { level, container }
 }
 
-fn fnv(number: u64) -> Fnv {
-    Fnv::from(number)
-}
-
 // Inserts the keys, and writes the answers as hex digits: the place where a key was found, 8 more where it was put, f for full.
 fn insert_all<K: Key>(slots: &mut [Slot<K>], keys: &[K]) -> u64 {
     let mut digits = 0u64;
@@ -47,7 +43,7 @@ fn no_slots(rt: HostRuntime) {
 #[test]
 fn one_slot(rt: HostRuntime) {
     let mut slots = [Slot::Empty; 1];
-    let keys = [fnv(5), fnv(5), fnv(6)];
+    let keys = [Fnv::from(5), Fnv::from(5), Fnv::from(6)];
     assert_eq!(rt; insert_all(&mut slots, &keys), 0x80f);
     assert_eq!(rt; look_up_all(&slots, 1, &keys), 0b110);
     assert_eq!(rt; look_up_all(&slots, 0, &keys), 0);
@@ -86,27 +82,29 @@ fn seven_slots_of_pairs(rt: HostRuntime) {
 fn seven_slots_of_fingerprints(rt: HostRuntime) {
     let mut slots = [Slot::Empty; 7];
     let keys = [
-        fnv(0),
-        fnv(7),
-        fnv(11),
-        fnv(6),
-        fnv(10),
-        fnv(0),
-        fnv(4),
-        fnv(8),
-        fnv(15),
-        fnv(7),
-        fnv(10),
+        Fnv::from(0),
+        Fnv::from(7),
+        Fnv::from(11),
+        Fnv::from(6),
+        Fnv::from(10),
+        Fnv::from(0),
+        Fnv::from(4),
+        Fnv::from(8),
+        Fnv::from(15),
+        Fnv::from(7),
+        Fnv::from(10),
     ];
     assert_eq!(rt; insert_all(&mut slots, &keys), 0xabce829df30);
     assert_eq!(rt; look_up_all(&slots, 7, &keys), 0b11111111011);
-    mark_key(&mut slots, fnv(11));
-    mark_key(&mut slots, fnv(15));
+    mark_key(&mut slots, Fnv::from(11));
+    mark_key(&mut slots, Fnv::from(15));
     assert!(rt;
-        is_marked(&slots, fnv(11)) && !is_marked(&slots, fnv(15)) && !is_marked(&slots, fnv(7))
+        is_marked(&slots, Fnv::from(11))
+            && !is_marked(&slots, Fnv::from(15))
+            && !is_marked(&slots, Fnv::from(7))
     );
     unmark(&mut slots);
-    assert!(rt; !is_marked(&slots, fnv(11)));
+    assert!(rt; !is_marked(&slots, Fnv::from(11)));
     assert_eq!(rt; look_up_all(&slots, 7, &keys), 0b11111111011);
 }
 

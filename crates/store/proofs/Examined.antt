@@ -1,9 +1,9 @@
 -- What an examination tells by the tests of a tree.
-use Rattle.std.proofs.Common.{◌≡◌, ℕ, ◌*◌, ◌≤◌, Bool, true, false, cond, not, eqb, List, [], ◌∷◌, length, IsErrAnd, Some, None, Ok, Err, Option, Result, sym, refl, ap, ◌∙◌, ⊎_elim, arith, length-append}
+use Rattle.std.proofs.Common.{◌≡◌, ℕ, ◌*◌, ◌≤◌, Bool, true, cond, not, eqb, List, [], ◌∷◌, length, IsErrAnd, Ok, Err, Result, sym, refl, ap, ◌∙◌, ⊎_elim, arith, length-append}
 use Rattle.std.specs.List.{AllByRecursion}
 use Rattle.std.proofs.lemmas.Bool.{cases_Bool, ne_eqb, eq-eqb}
 use Rattle.records.specs.Limits.{Fits}
-use Rattle.records.specs.Records.{Rec, Contents}
+use Rattle.records.specs.Records.{Contents}
 use Rattle.records.specs.Refusals.{untold}
 use Rattle.records.specs.declared.refusal.Cause.TheVariants.{NoRoot, BrokenTree}
 use Rattle.records.specs.declared.refusal.Place.{Place}

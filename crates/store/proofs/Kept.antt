@@ -1,18 +1,14 @@
 -- What a call that keeps a sheet knows once its tests are passed.
-use Rattle.std.proofs.Common.{◌≡◌, ℕ, ◌*◌, ◌≤◌, Bool, true, false, not, ltb, List, length, set, replicate, Some, Ok, Err, Option, Result, sym, refl, ap, ◌∙◌, inl, inr}
+use Rattle.std.proofs.Common.{◌≡◌, ℕ, ◌*◌, ◌≤◌, not, ltb, List, length, Ok, refl, inl, inr}
 use Rattle.std.proofs.lemmas.Bool.{ltb-false, not-false}
 use Rattle.records.specs.Records.{Contents}
 use Rattle.records.specs.Refusals.{untold}
 use Rattle.records.specs.declared.refusal.Cause.TheVariants.{TooShort, BrokenTree}
-use Rattle.records.specs.declared.refusal.Refusal.{Refusal}
-use Rattle.slots.specs.declared.slot.Slot.{Slot}
-use Rattle.slots.specs.declared.slot.Slot.TheVariants.{Empty}
 use Rattle.trees.specs.Trees.{Whole, is_whole}
 use Rattle.trees.proofs.Wholeness.{whole_computed}
-use Rattle.catalogue.specs.Sheets.{Kept}
-use Rattle.store.specs.States.{State, keeping}
-use Rattle.store.specs.Keeping.{new_sheet, whole_tests, entry_tests, tree_tests, entry_answer, tree_answer, keep_answer, after_keep, keep_table}
-use Rattle.store.proofs.Testing.{passed, passed_value, passed_change, stopped, stopped_change, passed_in}
+use Rattle.store.specs.States.{State}
+use Rattle.store.specs.Keeping.{whole_tests, entry_tests, entry_answer, tree_answer}
+use Rattle.store.proofs.Testing.{passed_in}
 
 module _ (w : ℕ) (s : State) (name root : List ℕ) (slots : ℕ) where
   -- a new sheet that gets an entry has a table that is long enough

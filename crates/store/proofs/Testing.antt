@@ -1,5 +1,5 @@
 -- What an answer says of the tests before it: all were passed, or one of them stopped the call.
-use Rattle.std.proofs.Common.{◌≡◌, ℕ, true, false, cond, List, [], ◌∷◌, IsErrAnd, Ok, Err, Result, sym, refl, ap, ◌∙◌, ⊎_elim, arith}
+use Rattle.std.proofs.Common.{◌≡◌, true, false, cond, List, [], ◌∷◌, IsErrAnd, Ok, Err, Result, refl, ap, ◌∙◌, ⊎_elim}
 use Rattle.records.specs.declared.refusal.Cause.{Cause}
 use Rattle.trees.specs.Holding.{In}
 use Rattle.store.specs.Refusing.{Test, refusing, unless}

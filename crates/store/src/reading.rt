@@ -136,6 +136,7 @@ impl<D: Device> Store<D> {
         ensures answer { result ≡ return_answer D.Kind.Key.WIDE (model D.Device D.Kind.Key.bytes self.old) token }
         ensures after { model D.Device D.Kind.Key.bytes self.new ≡ after_return D.Kind.Key.WIDE (model D.Device D.Kind.Key.bytes self.old) token }
     {
+        // Not by `?`, as in `next`.
         if let Err(refusal) = self.place_due(&token) {
             return Err((refusal, token));
         }

@@ -10,6 +10,6 @@ pub struct Store<D: Device> {
     // Which container takes new records; none while the store is shut.
     pub(crate) filling: Option<Filling>,
     pub(crate) catalogue: Catalogue<D::Kind>,
-    // Whether a marking is open.
+    // Whether a marking is open; no value goes with it.
     pub(crate) marking: bool,
 }

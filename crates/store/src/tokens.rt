@@ -8,7 +8,7 @@ pub struct ReadToken {
     pub(crate) position: u64,
 }
 
-// A record that was put: its fingerprint, and whether it was not stored before.
+// A record that was put: its fingerprint, which it has either way, and whether it was not stored before.
 #[derive(Clone, Copy, Debug, PartialEq, Eq)]
 pub struct Stored<F> {
     pub fingerprint: F,

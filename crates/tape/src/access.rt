@@ -60,6 +60,7 @@ impl<F: Fingerprint> Tape<F> {
         ensures records { result.records ≡ length (records_of (held_by F.Key.WIDE self.now) container) }
         ensures payload { result.payload ≡ payload_bytes (records_of (held_by F.Key.WIDE self.now) container) }
     {
+        // Two sums in one pass; a chain's `sum` leaves its bound open.
         let mut records = 0;
         let mut payload = 0;
         for entry in self.log() {

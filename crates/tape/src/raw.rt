@@ -34,6 +34,7 @@ fn put_entry<F: Fingerprint>(to: &mut [u8], container: u8, added: Record<'_, F>)
     ensures octets { Bytes added.entry.payload.now }
 {
     put_head(to, container, added.level, added.payload.len());
+    // It fits, so the answer says nothing new.
     let _ = added.fingerprint.write(&mut to[4..]);
     put_front(&mut to[F::WIDE + 4..], added.payload);
 }

@@ -2,7 +2,7 @@
 ghost use Rattle.std.specs.Prelude.{◌≡◌, ◌+◌, ◌≤◌, length, drop, slice_index};
 ghost use Rattle.tape.specs.Log.{Logged, log_of, log_before, log_size, length_at, without};
 
-// How many entries a log has, and how many bytes they take.
+// How many entries a log has, and how many bytes they take, as a tape keeps them.
 #[derive(Clone, Copy)]
 pub(crate) struct Extent {
     pub entries: usize,

@@ -1,15 +1,7 @@
 // Positions that lead nowhere.
-use std::error::Error;
-use std::fmt;
+use thiserror::Error;
 
 // The position is none of the tree's, or its strip is not stored.
-#[derive(Clone, Copy, Debug, PartialEq, Eq)]
+#[derive(Clone, Copy, Debug, PartialEq, Eq, Error)]
+#[error("the position leads to no stored strip of the tree")]
 pub struct Astray;
-
-impl fmt::Display for Astray {
-    fn fmt<W: fmt::Write>(&self, f: &mut fmt::Formatter<W>) -> fmt::Result {
-        f.write_str("the position leads to no stored strip of the tree")
-    }
-}
-
-impl Error for Astray {}

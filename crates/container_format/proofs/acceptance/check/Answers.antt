@@ -10,7 +10,7 @@ returns-then-not-has_length g c =
     let w = g.F.Key.WIDE in
     let bs = c.args.bytes.now in
     record {
-      answer = size_refused w bs c.into.result c.into.ensures (no_count w c.container_size.result (length bs) c.container_size.ensures (λ count. c.if-not-has_length.ensures.no count));
+      answer = size_refused w bs c.from.result c.from.ensures (no_count w c.container_size.result (length bs) c.container_size.ensures (λ count. c.if-not-has_length.ensures.no count));
       one = one_file w;
     }
 
@@ -19,7 +19,7 @@ returns-then-not-containers_in_order g c =
     let w = g.F.Key.WIDE in
     let bs = c.args.bytes.now in
     record {
-      answer = layout_refused w (length bs / c.container_size.result) bs c.into-then-not-containers_in_order.result c.into-then-not-containers_in_order.ensures (c.if-not-has_length.ensures.yes tt) c.if-not-containers_in_order.ensures.no;
+      answer = layout_refused w (length bs / c.container_size.result) bs c.from-then-not-containers_in_order.result c.from-then-not-containers_in_order.ensures (c.if-not-has_length.ensures.yes tt) c.if-not-containers_in_order.ensures.no;
       one = one_file w;
     }
 

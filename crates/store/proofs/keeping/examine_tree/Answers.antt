@@ -1,4 +1,4 @@
-use Rattle.std.proofs.Common.{◌≤◌, arith}
+use Rattle.std.proofs.Common.{arith}
 use Rattle.store.proofs.Examined.{few_all, found_whole, found_wrong}
 use Rattle.store.proofs.keeping.examine_tree.Goals as goal
 
