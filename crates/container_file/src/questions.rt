@@ -63,7 +63,7 @@ impl<F: Fingerprint> ContainerFile<F> {
         &self.bytes
     }
 
-    // How many containers there are.
+    // How many containers there are. (The tape has the same two lines over its own fields: an interface of their own would be no plainer.)
     pub(crate) fn containers(&self) -> usize
         ensures count { result ≡ length (contents_of F.Key.WIDE self.now) }
         ensures own { 0 < result → (self.now.width ≡ F.Key.WIDE) × (result ≡ self.now.count) }

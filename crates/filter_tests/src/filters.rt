@@ -21,7 +21,7 @@ fn with_two_marks(heap: Global, long: usize) -> Result<BloomFilter, Fail> {
 fn weighed(filter: BloomFilter) -> u64 {
     let bytes = filter.into_bytes();
     let mut sum = 0u64;
-    // A loop, since a chain would have to prove its arithmetic in a closure.
+    // A byte's weight is one more than its place.
     for (i, byte) in bytes.iter().enumerate() {
         sum = sum.wrapping_add((i as u64).wrapping_add(1).wrapping_mul(u64::from(*byte)));
     }

@@ -16,7 +16,7 @@ use records::{Cause, Place, Record};
 use std::marker::PhantomData;
 
 impl<F: Fingerprint> Tape<F> {
-    // How many containers there are for this kind of fingerprint.
+    // How many containers there are for this kind of fingerprint, as `containers` of a container file has it.
     pub(crate) fn seen(&self) -> usize
         ensures { result ≡ length (held_by F.Key.WIDE self.now) }
     {

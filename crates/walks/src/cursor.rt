@@ -12,7 +12,7 @@ use crate::children::{child_at, child_count};
 use devices::Device;
 use records::Place;
 
-// The level that a root is stored at; 0 if it is not stored, which is one case to its callers: neither is a node.
+// The level that a root is stored at, and 0 if it is not stored, as its definition has it: who goes down from it looks it up again.
 pub(crate) fn height_of<D: Device>(device: &D, root: D::Kind) -> u8
     ensures { result ≡ level_of (record_of (D.contents device.now) (D.Kind.Key.bytes root)) }
 {

@@ -124,7 +124,7 @@ impl<'a, D: Device> Nodes<'a, D> {
     fn visit(&self, table: &mut [Slot<D::Kind>]) -> Result<(), Flaw>
         ensures { Moves D.Kind.Key.bytes D.Kind.Key.WIDE (D.contents self.now.device.now) self.now.level [] (keys_of table.old) (self.now.level - 1) [] (keys_of table.new) result }
     {
-        // `try_for_each` would borrow the table in a closure.
+        // A loop, since a proof knows nothing of what a closure has changed, here the table.
         for container in 0..self.device.count() {
             self.visit_container(container, table)?;
         }
