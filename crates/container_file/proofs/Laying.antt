@@ -1,12 +1,13 @@
 -- A file of zero bytes has free containers, and a file's bytes are those of what it holds.
-use Rattle.std.proofs.Common.{◌≡◌, ℕ, zero, suc, ◌+◌, ◌*◌, ◌≤◌, List, [], ◌++◌, length, take, replicate, vec_items, sym, refl, ap, ◌∙◌, subst, suc-mul, add_comm, zero-mul, arith}
-use Rattle.std.proofs.lemmas.List.{length-replicate, replicate-append-replicate, append-nil, take_all}
+use Rattle.std.proofs.Common.{◌≡◌, ℕ, zero, suc, ◌+◌, ◌-◌, ◌*◌, ◌≤◌, List, [], ◌++◌, length, take, replicate, vec_items, sym, refl, ap, ◌∙◌, subst, suc-mul, add_comm, zero-mul, arith}
+use Rattle.std.proofs.lemmas.List.{length-replicate, replicate-append-replicate, append-nil, drop_all, take_all}
 use Rattle.std.specs.List.{AllByRecursion}
 use Rattle.records.specs.Limits.{Stored, Limits}
 use Rattle.records.specs.Records.{Rec}
 use Rattle.container_format.specs.Layout.{container_size, file}
 use Rattle.container_format.specs.Reading.{read_file}
 use Rattle.container_format.specs.Checking.{Intact, Count}
+use Rattle.container_format.specs.Writing.{written}
 use Rattle.container_format.proofs.Files.{intact_made, reads_behind, length-read_file}
 use Rattle.container_file.specs.Meaning.{contents_of}
 use Rattle.container_file.specs.declared.file.ContainerFile.{ContainerFile}
@@ -23,6 +24,14 @@ zero_file w (suc n) =
     let S = container_size w in
     let e : S + n * S ≡ suc n * S = add_comm S (n * S) ∙ sym (suc-mul n S) in
     (λ i. zero_container w i ++ zero_file w n i) ∙ replicate-append-replicate S (n * S) 0 ∙ ap (λ k. replicate k 0) e
+
+-- a write over all bytes leaves what was written
+pub overwritten : (bs : List ℕ) → written 0 (replicate (length bs - 0) 0) bs ≡ replicate (length bs) 0
+overwritten bs =
+    let L = length bs in
+    let z : L - 0 ≡ L = omega arith in
+    let past : L ≤ 0 + length (replicate {A = ℕ} L 0) = (let t = length-replicate {A = ℕ} L 0 in omega arith) in
+    ap (λ k. written 0 (replicate k 0) bs) z ∙ ap (λ y. replicate L 0 ++ y) (drop_all _ bs past) ∙ append-nil (replicate L 0)
 
 pub record Laid (w n : ℕ) (bs after : List ℕ) : Type 0 where
   pub zeros : after ≡ replicate (length bs) 0

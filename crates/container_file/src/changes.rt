@@ -103,7 +103,7 @@ impl<F: Fingerprint> ContainerFile<F> {
 }
 
 // Makes the bytes from `from` up to `end` zero.
-fn zero(bytes: &mut Vec<u8>, from: usize, end: usize)
+pub(crate) fn zero(bytes: &mut Vec<u8>, from: usize, end: usize)
     requires order { from ≤ end }
     requires inside { end ≤ length bytes.old.items }
     ensures { bytes.new.items ≡ written from (replicate (end - from) 0) bytes.old.items }

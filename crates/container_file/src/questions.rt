@@ -9,6 +9,7 @@ ghost use Rattle.container_format.specs.Layout.{file};
 ghost use Rattle.container_format.specs.Reading.{read_file};
 ghost use Rattle.container_file.specs.Meaning.{contents_of, answered, Found, Entered, Spanned, LaidOut};
 
+use crate::changes::zero;
 use crate::file::ContainerFile;
 use crate::header::Header;
 use container_format::{
@@ -51,7 +52,8 @@ impl<F: Fingerprint> ContainerFile<F> {
         if !has_length::<F>(bytes.len(), count) {
             return Err((Refusal::from(Cause::Size), bytes));
         }
-        bytes.fill(0);
+        let end = bytes.len();
+        zero(&mut bytes, 0, end);
         Ok(Self::of(bytes, count))
     }
 

@@ -117,11 +117,11 @@ fn damaged(digit: u32) -> Slot<Pair> {
     }
 }
 
-// A plain walk of its own, from a home that is told. It steps by index, so that it shares nothing with the walk that it checks.
+// A plain walk of its own, from a home that is told. It steps by index and compares part by part, so that it shares nothing with the walk that it checks.
 fn plain_walk(slots: &[Slot<Pair>; 3], home: usize, key: Pair) -> bool {
     for step in 0..3usize {
         let met = slots[(home % 3 + step) % 3].key();
-        if met.is_none_or(|other| other == key) {
+        if met.is_none_or(|other| other.level == key.level && other.container == key.container) {
             return met.is_some();
         }
     }

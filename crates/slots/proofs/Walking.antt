@@ -171,6 +171,11 @@ module _ {K : Type 0} (b : K → List ℕ) where
   others_filled k (None ∷ xs) e = cc
   others_filled k (Some x ∷ xs) e = let r = others_filled k xs (and_parts (is_other b k (Some x)) (others_only b k xs) e).1 in omega arith
 
+  pub filled-append : (xs ys : List (Option K)) → filled (xs ++ ys) ≡ filled xs + filled ys
+  filled-append [] ys = omega arith
+  filled-append (None ∷ xs) ys = filled-append xs ys
+  filled-append (Some x ∷ xs) ys = let r = filled-append xs ys in omega arith
+
   pub filled_le : (xs : List (Option K)) → filled xs ≤ length xs
   filled_le [] = omega arith
   filled_le (None ∷ xs) = let r = filled_le xs in omega arith
@@ -337,6 +342,12 @@ module _ {K : Type 0} (b : K → List ℕ) where
   holds-path k h xs =
       holds-append k (drop h xs) (take h xs) ∙ or_comm (holds b (drop h xs) k) (holds b (take h xs) k)
       ∙ sym (holds-append k (take h xs) (drop h xs)) ∙ ap (λ ys. holds b ys k) (take-append-drop h xs)
+
+  filled-path : (h : ℕ) (xs : List (Option K)) → filled (drop h xs) + filled (take h xs) ≡ filled xs
+  filled-path h xs = let e = sym (filled-append (take h xs) (drop h xs)) ∙ ap filled (take-append-drop h xs) in omega arith
+
+  length-path : (h : ℕ) (xs : List (Option K)) → length (drop h xs) + length (take h xs) ≡ length xs
+  length-path h xs = omega (arith, length-drop h xs, length-take h xs)
 
   pub met_is : (k : K) (xs : List (Option K)) → Sound b xs → is_found (probed b k xs) ≡ holds b xs k
   met_is k xs sound =

@@ -1,5 +1,5 @@
 -- The entry at the front of a log, and the log behind it.
-use Rattle.std.proofs.Common.{◌≡◌, ℕ, suc, ◌+◌, ◌-◌, ◌*◌, ◌≤◌, cond, leb, List, [], ◌∷◌, length, take, drop, slice_index, slice_index_or, Some, None, sym, refl, ap, subst, ◌∙◌, arith}
+use Rattle.std.proofs.Common.{◌≡◌, ℕ, suc, ◌+◌, ◌-◌, ◌*◌, ◌≤◌, cond, leb, List, [], ◌∷◌, length, length-take, take, drop, slice_index, slice_index_or, Some, None, sym, refl, ap, subst, ◌∙◌, arith}
 use Rattle.std.proofs.Math.Logic.{∥∥₁_elim}
 use Rattle.std.proofs.lemmas.Bool.{le-leb}
 use Rattle.std.proofs.lemmas.List.{length-drop, take_all}
@@ -57,6 +57,12 @@ module _ (w k others : ℕ) (bs : List ℕ) (counted : (1 ≤ k) × (others ≡ 
 
   pub front_space : 4 + w + length_at bs ≤ length bs
   front_space = let t = told in let s = l.space in omega arith
+
+  -- the four bytes at the front, all of which are read, and what is behind them
+  pub cut_of : (front behind' head : List ℕ) → front ≡ take 4 bs → behind' ≡ drop 4 bs → head ≡ take 4 front → (head ≡ take 4 bs) × (behind' ≡ drop 4 bs) × (length behind' + 4 ≡ length bs)
+  cut_of front behind' head f b read =
+      let short : length front ≤ 4 = omega (arith, ap length f, length-take 4 bs) in
+      (read ∙ take_all 4 front short ∙ f, b, (let s = front_space in let d = ap length b ∙ length-drop 4 bs in omega arith))
 
   pub log_next : log_of w k bs ≡ e ∷ log_of w others behind
   log_next = ap (λ n. log_of w n bs) some

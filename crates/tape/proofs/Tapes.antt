@@ -68,6 +68,9 @@ module _ (w v n k used : ℕ) (bs : List ℕ) (good : ∥ Good v n k used bs ∥
   abbrev es : List Entry
   es = log_of v k bs
 
+  sound_v : Sound w e → Sound v e
+  sound_v sound = subst (λ x. Sound x e) (sym at.same) sound
+
   one_v : length (records_in e.container es) < 63
   one_v = let r = ap length at.records in omega arith
 
@@ -90,7 +93,7 @@ module _ (w v n k used : ℕ) (bs : List ℕ) (good : ∥ Good v n k used bs ∥
       let s = at.same in
       let z : entry_size w e ≡ entry_size v e = omega arith in
       let is' : bs' ≡ take used bs ++ laid_before e (drop (entry_size v e) (drop used bs)) = bb ∙ is ∙ (λ i. take used (ww i) ++ laid_before e (drop (z i) (drop used (ww i)))) in
-      let made = good_more v n k used bs g e at.inside one_v all_v (subst (λ x. Sound x e) (sym s) sound) (k + 1) used' bs' refl (uu ∙ ap (λ x. used + x) z) (ap length bb ∙ ll ∙ ap length ww) is' in
+      let made = good_more v n k used bs g e at.inside one_v all_v (sound_v sound) (k + 1) used' bs' refl (uu ∙ ap (λ x. used + x) z) (ap length bb ∙ ll ∙ ap length ww) is' in
       (made.0, held_same w v n (k + 1) bs' s ∙ made.1 ∙ ap (λ x. appended x e.container e.stored) (sym (held_same w v n k bs s)))
 
 -- a container less, as the kind sees it

@@ -60,10 +60,15 @@ impl Height {
 fn strip_below<D: Device>(device: &D, node: D::Kind, height: Height, position: u64) -> Option<Place>
     ensures { result ≡ if_some None (first_place (D.contents device.now)) (seek (children D.Kind.Key.WIDE (D.contents device.now)) height.level (D.Kind.Key.bytes node) position) }
 {
-    let place = device.first_place(node)?;
     let Some(below) = height.below() else {
-        return (position == 0).then_some(place);
+        // Tested first: a strip is looked for only where there is one.
+        return if position == 0 {
+            device.first_place(node)
+        } else {
+            None
+        };
     };
+    let place = device.first_place(node)?;
     let space = below.span();
     let child = child_at(device, place, (position / space) as usize)?;
     strip_below(device, child, below, position % space)
