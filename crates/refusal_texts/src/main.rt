@@ -1,7 +1,9 @@
-// Prints every refusal's text, and those of what an examination of a tree and a position can answer.
+// Prints every refusal's text, and those of what a copy, an examination of a tree and a position can answer.
 #![tactic(auto)]
 
+use commands::copy_command::Fault;
 use records::{Cause, Place, Refusal};
+use std::alloc::AllocError;
 use std::io;
 use walks::{Astray, Flaw};
 
@@ -38,6 +40,12 @@ fn main(rt: HostRuntime) -> io::Result<()> {
     for cause in CAUSES.iter() {
         let refusal = Refusal::from(*cause);
         println!(rt; "{refusal}")?;
+    }
+    for fault in [
+        Fault::Refused(Refusal::from(Cause::Size)),
+        Fault::NoMemory(AllocError),
+    ] {
+        println!(rt; "{fault}")?;
     }
     let node = Place {
         container: 3,
